@@ -1,0 +1,31 @@
+// The refusals of document 01, "Numbers returned": why a call gives no result.
+// A reader may rely on `number`, which is the table's number.
+ghost use mathlib.Core.Path.{_≡_};
+ghost use Rattle.refusal.specs.Number.{numberOf};
+
+pub enum Refusal {
+    TextTooLong,
+    UnknownCalendar,
+    IllFormed,
+    NoSuchDate,
+    OutOfRange,
+    Inexact,
+    NoRoom,
+    NotFinite,
+}
+
+// The number of a refusal; 0 is kept for success.
+pub fn number(r: Refusal) -> u32
+    ensures { λ n. ⌜ n ≡ numberOf r ⌝ }
+{
+    match r {
+        Refusal::TextTooLong => return 1,
+        Refusal::UnknownCalendar => return 2,
+        Refusal::IllFormed => return 3,
+        Refusal::NoSuchDate => return 4,
+        Refusal::OutOfRange => return 5,
+        Refusal::Inexact => return 6,
+        Refusal::NoRoom => return 7,
+        Refusal::NotFinite => return 8,
+    }
+}

@@ -1,0 +1,57 @@
+-- `signed::biased` meets its contract. Assumes nothing.
+use mathlib.Core.Path.{sym, ap, _∙_, subst}
+use Prim.Native.Nat.{_-_, _+_}
+use native.Mathlib.Omega.{arith}
+use lib.Dec.{T}
+use lib.IntN.{ℤ, natAbs}
+use lib.Signed.{nonNeg}
+use mir.Syntax.{w64}
+use mir.Val.{Fits}
+use borrow.Author.Needs.{needs}
+use Rattle.signed.specs.Bias.{raise}
+use Rattle.signed.proofs.Machine.{Negative, Positive, negative, positive}
+use Rattle.signed.proofs.biased.Statement.{statement}
+use Rattle.signed.proofs.biased.Tie as tie
+
+below : (c : tie.Then1) → Negative (c .before .args .n)
+below c = negative (c .before .args .n) (c .before .fits .n) (c .if1 .taken)
+
+above : (c : tie.Else1) → Positive (c .before .args .n)
+above c = positive (c .before .args .n) (c .before .fits .n) (c .if1 .left)
+
+sub-result : tie.Need-sub-result
+sub-result c = search needs
+
+sub-result-2 : tie.Need-sub-result-2
+sub-result-2 c = ?
+
+cast-result : tie.Need-cast-result
+cast-result c = ?
+
+sub-result-3 : tie.Need-sub-result-3
+sub-result-3 c = ?
+
+returns : tie.Need-returns
+returns c = ?
+
+cast-result-2 : tie.Need-cast-result-2
+cast-result-2 c = ?
+
+add-result : tie.Need-add-result
+add-result c = ?
+
+returns-2 : tie.Need-returns-2
+returns-2 c = ?
+
+pub biased-spec : {M : Type 1} → statement M
+biased-spec =
+    tie.close
+    (tie.spec
+    sub-result
+    sub-result-2
+    cast-result
+    sub-result-3
+    returns
+    cast-result-2
+    add-result
+    returns-2)

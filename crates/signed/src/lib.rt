@@ -1,0 +1,24 @@
+// The border between signed and unsigned numbers. A signed number crosses it once, as the natural number
+// n + 2^63, and all arithmetic beyond it is unsigned. Both directions are total and do not branch on the sign.
+ghost use mathlib.Core.Path.{_≡_};
+ghost use Rattle.signed.specs.Bias.{raise, lower};
+
+// n + 2^63
+pub fn biased(n: i64) -> u64
+    ensures { λ r. ⌜ r ≡ raise n ⌝ }
+{
+    if n < 0 {
+        return 0x8000_0000_0000_0000 - 1 - ((-1 - n) as u64);
+    }
+    return (n as u64) + 0x8000_0000_0000_0000;
+}
+
+// k - 2^63
+pub fn unbiased(k: u64) -> i64
+    ensures { λ r. ⌜ r ≡ lower k ⌝ }
+{
+    if k < 0x8000_0000_0000_0000 {
+        return -1 - ((0x8000_0000_0000_0000 - 1 - k) as i64);
+    }
+    return (k - 0x8000_0000_0000_0000) as i64;
+}
