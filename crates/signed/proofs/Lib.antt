@@ -1,2 +1,3 @@
+pub mod Tests
 pub mod Differences
 pub mod Machine
