@@ -21,10 +21,10 @@ use Rattle.calendar.proofs.Following.{Follows, day, month, year, next-i
 
 -- ---- the names of years
 
-year-low : (y : ℕ) → y ≤ 10000 → yearAt false y ≡ negsuc (10000 - y)
+pub year-low : (y : ℕ) → y ≤ 10000 → yearAt false y ≡ negsuc (10000 - y)
 year-low y h = rw (le-leb y 10000 h) (sub-low y 10001 (omega arith) ∙ ap negsuc (omega arith))
 
-year-high : (y : ℕ) → 10000 < y → yearAt false y ≡ pos (y - 10000)
+pub year-high : (y : ℕ) → 10000 < y → yearAt false y ≡ pos (y - 10000)
 year-high y h = rw (lt-leb y 10000 h) (sub-high y 10000 (omega arith))
 
 -- cases on the sign, without a year 0

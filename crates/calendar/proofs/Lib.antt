@@ -11,3 +11,4 @@ pub mod Range
 pub mod Numbering
 pub mod Answering
 pub mod Counting
+pub mod Theorems

@@ -17,7 +17,7 @@ use Rattle.calendar.specs.declared.Calendar.{Calendar}
 use Rattle.calendar.specs.declared.Date.{Date}
 use Rattle.calendar.proofs.Existing.{date-eq}
 use Rattle.calendar.proofs.Ordered.{same-year, year-eq, one-day}
-use Rattle.calendar.proofs.Range.{inside-of, small}
+use Rattle.calendar.proofs.Range.{near}
 
 same-of : (x y : Date) → sameDate x y ≡ true → x ≡ y
 same-of x y h =
@@ -51,7 +51,5 @@ module _ (c : Calendar) where
   pub number-is : (x : Date) (z : ℤ) → inYears (x .year) ≡ true → dateOf c z ≡ x → dayNumber c x ≡ z
   unfolding dayNumber
   number-is x z h e =
-      let k = inside-of c z (ap (λ (d : Date). inYears (d .year)) e ∙ h) in
-      let n = k .number + (5000000 - base c) in
-      let f : subℕ n 5000000 ≡ z = same-diff n 5000000 (k .number) (base c) (omega (arith, small c)) ∙ k .is in
-      search x 10000000 0 n 5000000 (omega arith) (omega (arith, small c, k .to)) (ap (dateOf c) f ∙ e) ∙ f
+      let k = near c z (ap (λ (d : Date). inYears (d .year)) e ∙ h) in
+      search x 10000000 0 (k .number) 5000000 (omega arith) (k .low) (ap (dateOf c) (k .is) ∙ e) ∙ k .is

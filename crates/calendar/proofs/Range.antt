@@ -11,7 +11,7 @@ use borrow.Author.Tests.{le-leb, lt-leb, leb-true}
 use Rattle.signed.specs.Bias.{lift}
 use Rattle.signed.proofs.Tests.{both, and-parts, left-out, right-out, to-false}
 use Rattle.signed.proofs.Order.{le-trans}
-use Rattle.signed.proofs.Differences.{sub-le, lift-is, above-least}
+use Rattle.signed.proofs.Differences.{sub-low, sub-high, sub-le, lift-is, above-least, same-diff}
 use Rattle.calendar.specs.Calendar.{hasYearZero, dateOf, inYears}
 use Rattle.calendar.specs.Closed.{yearStart, yearAt, label, base, first, end}
 use Rattle.calendar.specs.declared.Calendar.{Calendar}
@@ -188,3 +188,28 @@ inside-of c z h = go (leZ z (subℕ 0 (base c))) refl
         let is : subℕ n (base c) ≡ z = lift-is z (base c) (above-least z (base c) e) in
         let w = and-parts (leb (first c) n) (leb n (end c - 1)) (sym (range-at c n) ∙ ((λ i. inYears (dateOf c (is i) .year)) ∙ h)) in
         record { number = n; is = is; from = leb-true (first c) n (w .0); to = omega (arith, small c, leb-true n (end c - 1) (w .1)) }
+
+-- day numbers far from 1970
+pub far-low : (c : Calendar) (n : ℕ) → 5000000 ≤ n → inYears (dateOf c (negsuc n) .year) ≡ false
+far-low c n h =
+    range c (negsuc n)
+    ∙ left-out (leZ (lowDay c) (negsuc n)) (leZ (negsuc n) (highDay c))
+    (ap (λ (z : ℤ). leZ z (negsuc n)) (sub-low (first c) (base c) (omega (arith, small c))) ∙ lt-leb n (base c - suc (first c)) (omega (arith, small c)))
+
+pub far-high : (c : Calendar) (n : ℕ) → 5000000 ≤ n → inYears (dateOf c (pos n) .year) ≡ false
+far-high c n h =
+    range c (pos n)
+    ∙ right-out (leZ (lowDay c) (pos n)) (leZ (pos n) (highDay c))
+    (ap (leZ (pos n)) (sub-high (end c - 1) (base c) (omega (arith, small c))) ∙ lt-leb n (end c - 1 - base c) (omega (arith, small c)))
+
+-- and those that are not: n - 5000000 for some n below ten million
+pub record Near (z : ℤ) : Type 0 where
+  pub number : ℕ
+  pub is : subℕ number 5000000 ≡ z
+  pub low : number < 10000000
+
+pub near : (c : Calendar) (z : ℤ) → inYears (dateOf c z .year) ≡ true → Near z
+near c z h =
+    let k = inside-of c z h in
+    let n = k .number + (5000000 - base c) in
+    record { number = n; is = same-diff n 5000000 (k .number) (base c) (omega (arith, small c)) ∙ k .is; low = omega (arith, small c, k .to) }
