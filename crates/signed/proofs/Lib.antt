@@ -1,3 +1,4 @@
+pub mod Tests
 pub mod Differences
 pub mod Integers
 pub mod Machine
