@@ -1,0 +1,5 @@
+pub mod Significand
+pub mod Pattern
+pub mod Range
+pub mod Scaling
+pub mod Reader
