@@ -3,3 +3,4 @@ pub mod Pattern
 pub mod Range
 pub mod Scaling
 pub mod Reader
+pub mod WholeSize

@@ -50,11 +50,8 @@ fn with_sign(n: u64, negative: bool) -> Whole
     ensures { λ r. ⌜ r ≡ in64 (withSign negative n) ⌝ }
 {
     if negative {
-        if n == 0 {
-            return Whole::Is(0);
-        }
         if n <= 0x8000_0000_0000_0000 {
-            Whole::Is(-1 - ((n - 1) as i64))
+            Whole::Is(signed::unbiased(0x8000_0000_0000_0000 - n))
         } else {
             Whole::Refused(Refusal::OutOfRange)
         }
