@@ -1,5 +1,5 @@
 -- From a double's bit pattern to its exact value: the fields that the code takes are the double's, and a finite one is ± significand * 2 ^ weight / 2 ^ 1074.
-use mathlib.Core.Path.{_≡_, refl, sym, ap, _∙_, subst}
+use mathlib.Core.Path.{_≡_, sym, ap, _∙_, subst}
 use mathlib.Core.Bool.{Bool, true, false, not, cond}
 use Prim.Native.Nat.{ℕ, zero, suc, _+_, _*_, _/_, _%_, _^_, _<_}
 use native.Mathlib.Omega.{arith}

@@ -1,6 +1,6 @@
 -- Counts and the range at the reader's boundary: a reference and a size of at most 2 ^ 62 add up in 64 bits, the tests of the range are those of `inRange`, and a size of 2 ^ 60 leaves every range.
 use mathlib.Core.Path.{_≡_, refl, sym, ap, _∙_, subst}
-use mathlib.Core.Bool.{Bool, true, false, not, _&&_}
+use mathlib.Core.Bool.{Bool, true, false, not}
 use Prim.Native.Nat.{ℕ, zero, suc, _+_, _-_, _^_, _≤_, _<_}
 use native.Mathlib.Omega.{arith}
 use lib.Dec.{T}

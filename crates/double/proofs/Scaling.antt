@@ -1,6 +1,5 @@
 -- What `scale` computes: the size of a double times the period, rounded, by the field of its exponent.
 use mathlib.Core.Path.{_≡_, refl, ap, _∙_, subst}
-use mathlib.Core.Bool.{Bool}
 use Prim.Native.Nat.{ℕ, zero, suc, _+_, _-_, _*_, _^_, _≤_, _<_}
 use native.Mathlib.Nat.{le-refl, le-trans, lt-of-lt-of-le, mul-comm, mul-assoc, mul-left-comm, mul-le-mul, mul-le-mul-right, zero-mul}
 use native.Mathlib.Omega.{arith}

@@ -1,7 +1,7 @@
 -- The size of a double as its two fields give it, significand * 2 ^ weight in units of 2 ^ -1074: its bounds, and when it is zero.
-use mathlib.Core.Path.{_≡_, refl, ap, _∙_}
+use mathlib.Core.Path.{_≡_, refl}
 use Prim.Native.Nat.{ℕ, zero, suc, _+_, _*_, _^_, _≤_, _<_}
-use native.Mathlib.Nat.{le-refl, lt-of-lt-of-le, mul-le-mul, zero-mul}
+use native.Mathlib.Nat.{le-refl, lt-of-lt-of-le, mul-le-mul}
 use native.Mathlib.Omega.{arith}
 use lib.Pow.{pow-pos, pow-mono, shl-lt}
 use Rattle.double.specs.Fields.{significand, weight}

@@ -1,6 +1,6 @@
 -- A double as a whole 64-bit offset, for calendar mode: ± m * 2 ^ e is the fraction m * up e / down e, and whole where nothing is left over.
 use mathlib.Core.Bool.{cond}
-use Prim.Native.Nat.{ℕ, _*_, _/_, _%_, _^_}
+use Prim.Native.Nat.{_*_, _/_, _%_, _^_}
 use lib.Dec.{eqb, ltb}
 use lib.IntN.{ℤ}
 use lib.Signed.{mag}

@@ -1,5 +1,5 @@
 -- The product of two words by columns in base 2 ^ 32: each column fits a word, and together they are the product.
-use mathlib.Core.Path.{_≡_, refl, sym, ap, _∙_, subst}
+use mathlib.Core.Path.{_≡_, refl, sym, _∙_, subst}
 use Prim.Native.Nat.{ℕ, _+_, _-_, _*_, _/_, _%_, _^_, _≤_, _<_}
 use native.Mathlib.Nat.{le-of-lt, lt-of-le-of-lt, mul-comm, mul-assoc, mul-left-comm, mul-add, add-mul, add-assoc, add-comm, add-left-comm, le-add-right, mul-le-mul, mul-le-mul-left, mul-lt-mul-of-pos-right, mod-lt, div-add-mod'}
 use native.Mathlib.Omega.{arith}

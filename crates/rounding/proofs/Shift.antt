@@ -1,5 +1,5 @@
 -- The shift of one word that rounds: what `round_shift` computes is `closest n (2 ^ k)`, for 2 ≤ k < 64.
-use mathlib.Core.Path.{_≡_, refl, sym, ap, _∙_, subst}
+use mathlib.Core.Path.{_≡_, sym, ap, _∙_, subst}
 use mathlib.Core.Bool.{Bool, true, false, cond}
 use Prim.Native.Nat.{ℕ, suc, _+_, _-_, _*_, _/_, _%_, _^_, _≤_, _<_}
 use native.Mathlib.Nat.{lt-of-le-of-lt, lt-of-lt-of-le, mod-lt, mod-eq-of-lt, div-add-mod', div-mul-le-self}

@@ -1,6 +1,6 @@
 -- `double::read_double` meets its contract. proofs/Reader.antt goes from the fields to the definition, proofs/Range.antt has the range.
 use mathlib.Core.Path.{_≡_, sym, ap, _∙_, subst}
-use mathlib.Core.Bool.{Bool, true, false}
+use mathlib.Core.Bool.{Bool, false}
 use Prim.Native.Nat.{ℕ, _^_, _≤_, _<_}
 use borrow.Author.Needs.{needs}
 use lib.Dec.{T}
@@ -19,7 +19,7 @@ use Rattle.signed.proofs.Integers.{tested}
 use Rattle.double.specs.declared.Reading.{Reading}
 use Rattle.double.specs.declared.Reading.the-variants.{Refused}
 use Rattle.double.specs.Nearest.{withSign}
-use Rattle.double.specs.Reading.{inRange, ranged, readFloat, readDouble}
+use Rattle.double.specs.Reading.{ranged, readFloat, readDouble}
 use Rattle.double.specs.Fields.{ScaledTo}
 use Rattle.double.proofs.Pattern.{signOf, fieldOf, digitsOf, no-nan, finite}
 use Rattle.double.proofs.Range.{inside, too-early, too-late, small}

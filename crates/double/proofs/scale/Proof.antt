@@ -1,7 +1,6 @@
 -- `double::scale` meets its contract. proofs/Scaling.antt has the arithmetic.
 use mathlib.Core.Path.{subst}
 use Prim.Native.Nat.{ℕ, _-_, _^_, _<_}
-use native.Mathlib.Omega.{arith}
 use borrow.Author.Needs.{needs}
 use Rattle.rounding.specs.Rounding.{QuotientOf}
 use Rattle.double.proofs.Scaling.{placed, high-lt, large, little}
