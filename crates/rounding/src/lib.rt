@@ -25,6 +25,7 @@ pub enum Quotient {
 
 // a * b, column by column in base 2^32.
 pub fn product(a: u64, b: u64) -> Wide
+    requires { ⌜ (a < 2 ^ 63) × (b < 2 ^ 63) ⌝ }
     ensures { λ r. ⌜ (r .high * 2 ^ 64 + r .low ≡ a * b) × (r .low < 2 ^ 64) ⌝ }
 {
     let a0 = a % 0x1_0000_0000;
@@ -32,11 +33,10 @@ pub fn product(a: u64, b: u64) -> Wide
     let b0 = b % 0x1_0000_0000;
     let b1 = b / 0x1_0000_0000;
     let low = a0 * b0;
-    let mid = a1 * b0 + low / 0x1_0000_0000;
-    let rest = a0 * b1 + mid % 0x1_0000_0000;
+    let mid = a1 * b0 + a0 * b1 + low / 0x1_0000_0000;
     Wide {
-        high: a1 * b1 + mid / 0x1_0000_0000 + rest / 0x1_0000_0000,
-        low: (rest % 0x1_0000_0000) * 0x1_0000_0000 + low % 0x1_0000_0000,
+        high: a1 * b1 + mid / 0x1_0000_0000,
+        low: (mid % 0x1_0000_0000) * 0x1_0000_0000 + low % 0x1_0000_0000,
     }
 }
 
