@@ -1,5 +1,6 @@
 -- The theorems about reading a double on a fixed axis: demand 3, whole, over the definition `readDouble` that `read_double` is proved to compute. They hold of all ranges, references, periods and doubles.
 --   read-right     every instant that is read is the nearest count, at most half a microsecond from the exact time, marked exact just where the distance is 0, and in the range
+--   read-inside    every instant that is read lies in the range
 --   nearest-unique there is no other nearest count
 --   outcome        whatever count is nearest, it is the answer where it lies in the range, and out of range elsewhere
 --   read-mono      of two doubles the greater never gives the earlier instant
@@ -59,6 +60,12 @@ module _ (lo hi R : ℤ) (P : ℕ) where
         mark = sym (k .1) ∙ count-exact R P s m e ∙ ap (λ (y : ℤ). eqb (distance R P s m e y) 0) (k .0);
         inside = ap (λ (y : ℤ). inRange lo hi y) (sym (k .0)) ∙ k .2;
       }
+
+  pub read-inside : (x : Float) (z : ℤ) (exact : Bool) → readDouble lo hi R P x ≡ At z exact → inRange lo hi z ≡ true
+  unfolding readDouble
+  read-inside nan z exact h = absurd (only-finite (inRange lo hi R) z exact h)
+  read-inside (inf s) z exact h = absurd (only-finite (inRange lo hi R) z exact h)
+  read-inside (fin s m e) z exact h = read-right s m e z exact h .inside
 
   pub outcome : (s : Bool) (m : ℕ) (e z : ℤ) → inRange lo hi R ≡ true → IsNearest R P s m e z → readDouble lo hi R P (fin s m e) ≡ ranged lo hi z (eqb (distance R P s m e z) 0)
   unfolding readDouble
