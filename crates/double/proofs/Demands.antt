@@ -19,7 +19,7 @@ use Rattle.rounding.specs.Rounding.{isExact}
 use Rattle.refusal.specs.declared.Refusal.{Refusal}
 use Rattle.refusal.specs.declared.Refusal.the-variants.{OutOfRange, NotFinite}
 use Rattle.signed.proofs.Tests.{both, and-parts}
-use Rattle.signed.proofs.Integers.{leZ-trans}
+use Rattle.signed.proofs.Order.{le-trans}
 use Rattle.double.specs.declared.Reading.{Reading}
 use Rattle.double.specs.declared.Reading.the-variants.{At, Refused}
 use Rattle.double.specs.Nearest.{exactSize, distance, IsNearest}
@@ -101,14 +101,11 @@ module _ (lo hi R : ℤ) (P : ℕ) where
       let z = nearestCount R P t n d in
       let k = was-read (inRange lo hi R) (inRange lo hi x) (isExact (exactSize P m e) (down e)) i x a p in
       let l = was-read (inRange lo hi R) (inRange lo hi z) (isExact (exactSize P n d) (down d)) j z b q in
-      let v : leZ lo y ≡ true = is-true (leZ lo y) (leZ-trans lo x y (holds (and-parts (leZ lo x) (leZ x hi) (k .2) .0)) (count-mono R P s m e u o f h)) in
-      let w : leZ y hi ≡ true = is-true (leZ y hi) (leZ-trans y z hi (count-mono R P u o f t n d g) (holds (and-parts (leZ lo z) (leZ z hi) (l .2) .1))) in
+      let v : leZ lo y ≡ true = le-trans lo x y (and-parts (leZ lo x) (leZ x hi) (k .2) .0) (is-true (leZ x y) (count-mono R P s m e u o f h)) in
+      let w : leZ y hi ≡ true = le-trans y z hi (is-true (leZ y z) (count-mono R P u o f t n d g)) (and-parts (leZ lo z) (leZ z hi) (l .2) .1) in
       let r = reference-in (inRange lo hi R) (readFloat lo hi R P (fin s m e)) a i p in
       (y, isExact (exactSize P o f) (down f), (λ t. cond (r t) (cond (both (leZ lo y) (leZ y hi) v w t) (At y (isExact (exactSize P o f) (down f))) (Refused OutOfRange)) (Refused OutOfRange)))
     where
-      holds : {b : Bool} → b ≡ true → T b
-      holds h = subst T (sym h) tt
-
       is-true : (b : Bool) → T b → b ≡ true
       is-true true h = refl
       is-true false h = absurd h

@@ -1,16 +1,16 @@
 -- Laws of the integers that lib.IntN and lib.Signed lack: sums, a product over a sum, absolute values, order, and comparisons of machine words.
 use mathlib.Core.Path.{_≡_, refl, sym, ap, _∙_, subst}
-use mathlib.Core.Bool.{Bool, true, false, not}
+use mathlib.Core.Bool.{Bool, not, Bool·not-not}
 use Prim.Native.Nat.{ℕ, zero, suc, _+_, _-_, _*_, _≤_}
 use native.Mathlib.Nat.{zero-mul}
 use native.Mathlib.Omega.{arith}
-use lib.Dec.{T, leb, ltb, le→leb, leb→le, leb·zero}
+use lib.Dec.{T, leb, le→leb, leb→le, leb·zero}
 use lib.IntN.{ℤ, pos, negsuc, negℤ, natAbs, sucℤ, predℤ, _+ℤ_, _-ℤ_, _*ℤ_, +ℤ-assoc, +ℤ-comm, +ℤ-idl, negℤ-negℤ, negℤ-+ℤ, +ℤ-negℤ-cancel, -ℤ-+ℤ-cancel, sucℤ-+ℤ, predℤ-+ℤ, sucℤ-*ℤ, predℤ-*ℤ, zero-*ℤ}
 use lib.Signed.{mag, leZ, ltZ}
-use borrow.Author.Tests.{le-leb, lt-leb, ltb-true, ltb-false}
 use mir.Syntax.{w64}
 use mir.Val.{SFits, toZ, ofZ}
 use mir.ValLaws.{toZ-ofZ}
+use Rattle.signed.proofs.Order.{lt-not-le}
 use Rattle.signed.proofs.Differences.{by-sign}
 
 -- ---- sums
@@ -120,12 +120,6 @@ mono R x y h =
     let k = between x y h in
     subst (λ (z : ℤ). T (leZ (R +ℤ x) z)) (+ℤ-assoc R x (pos (k .0)) ∙ ap (λ (z : ℤ). R +ℤ z) (sym (k .1))) (after (R +ℤ x) (k .0))
 
-pub leZ-trans : (x y z : ℤ) → T (leZ x y) → T (leZ y z) → T (leZ x z)
-leZ-trans x y z h g =
-    let k = between x y h in
-    let l = between y z g in
-    subst (λ (t : ℤ). T (leZ x t)) (sym (l .1 ∙ ap (λ (t : ℤ). t +ℤ pos (l .0)) (k .1) ∙ +ℤ-assoc x (pos (k .0)) (pos (l .0)))) (after x (k .0 + l .0))
-
 pub neg-le : (a b : ℕ) → b ≤ a → T (leZ (negℤ (pos a)) (negℤ (pos b)))
 neg-le zero zero h = tt
 neg-le zero (suc b) h = absurd (go h)
@@ -142,18 +136,8 @@ pub neg-le-pos : (a b : ℕ) → T (leZ (negℤ (pos a)) (pos b))
 neg-le-pos zero b = subst T (sym (leb·zero b)) tt
 neg-le-pos (suc a) b = tt
 
-leb-not : (a b : ℕ) → leb a b ≡ not (ltb b a)
-leb-not a b = go (ltb b a) refl
-  where
-    go : (t : Bool) → ltb b a ≡ t → leb a b ≡ not t
-    go true e = lt-leb a b (ltb-true b a e)
-    go false e = le-leb a b (ltb-false b a e)
-
 pub leZ-not : (a b : ℤ) → leZ a b ≡ not (ltZ b a)
-leZ-not (pos a) (pos b) = leb-not a b
-leZ-not (pos a) (negsuc b) = refl
-leZ-not (negsuc a) (pos b) = refl
-leZ-not (negsuc a) (negsuc b) = leb-not b a
+leZ-not a b = sym (Bool·not-not (leZ a b)) ∙ ap not (sym (lt-not-le b a))
 
 -- a comparison of two machine words is one of the numbers that they hold
 pub tested : {a b : ℤ} {t : Bool} → SFits w64 a → SFits w64 b → ltZ (toZ w64 (ofZ w64 a)) (toZ w64 (ofZ w64 b)) ≡ t → ltZ a b ≡ t
