@@ -7,9 +7,9 @@ use mathlib.Core.Path.{_≡_, refl, sym, ap, _∙_}
 use mathlib.Core.List.{List}
 use lib.ListN.{length, drop, getD}
 use lib.Seq.{drop-length}
-use Rattle.grammar.specs.Rules.{decimal}
-use Rattle.grammar.proofs.Places.{span-at}
+use Rattle.grammar.specs.Rules.{decimal, same}
 use Rattle.grammar.proofs.Decimals.{decimal-step, decimal-grows, decimal-below, decimal-small}
+use Rattle.grammar.proofs.Places.{span-at}
 use Rattle.grammar.proofs.decimal_of.Statement.{statement}
 use Rattle.grammar.proofs.decimal_of.Tie as tie
 

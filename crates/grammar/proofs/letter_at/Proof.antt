@@ -1,7 +1,6 @@
 -- `grammar::letter_at` meets its contract: the two cases of the letter.
 use borrow.Author.Needs.{needs}
-use Prim.Native.Nat.{_-_}
-use mathlib.Core.Path.{sym, ap, _∙_}
+use mathlib.Core.Path.{sym, _∙_}
 use lib.ListN.{drop}
 use Rattle.grammar.proofs.Steps.{either-yes, either-else}
 use Rattle.grammar.proofs.letter_at.Statement.{statement}

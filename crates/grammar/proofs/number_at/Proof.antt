@@ -1,7 +1,7 @@
 -- `grammar::number_at` meets its contract: the run of digits is what the reader takes, and its length decides.
 use borrow.Author.Needs.{needs}
 use native.Mathlib.Omega.{arith}
-use Prim.Native.Nat.{_+_, _-_}
+use Prim.Native.Nat.{_+_}
 use mathlib.Core.Path.{_≡_, sym, ap, ap₂, _∙_}
 use lib.ListN.{length, drop}
 use Rattle.grammar.specs.Reader.{front, found}

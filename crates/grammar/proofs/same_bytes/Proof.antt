@@ -2,7 +2,7 @@
 use native.Mathlib.Omega.{arith}
 use Prim.Native.Nat.{_-_, _≤_}
 use mathlib.Core.Path.{_≡_, refl, sym, _∙_}
-use lib.ListN.{length, drop, take}
+use lib.ListN.{length, drop}
 use Rattle.grammar.specs.Rules.{same}
 use Rattle.grammar.proofs.Same.{same-length-no, same-more, same-differ, same-end}
 use Rattle.grammar.proofs.same_bytes.Statement.{statement}
