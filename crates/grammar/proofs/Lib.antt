@@ -2,6 +2,6 @@ pub mod Tests
 pub mod Classes
 pub mod Reading
 pub mod Places
-pub mod Decimals
+pub mod Numerals
 pub mod Steps
 pub mod Same

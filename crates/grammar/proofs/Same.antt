@@ -2,15 +2,27 @@
 use Prim.Native.Nat.{ℕ, _+_, _≤_, _<_}
 use native.Mathlib.Omega.{arith}
 use native.Mathlib.Numerals.{add-one}
-use mathlib.Core.Path.{_≡_, refl}
+use mathlib.Core.Path.{_≡_, refl, ap₂}
 use mathlib.Core.Bool.{true, false}
 use mathlib.Core.List.{List, [], _∷_}
 use lib.Dec.{eqb}
 use lib.ListN.{length, getD, drop, drop-of-length-le}
 use lib.Seq.{drop-cons}
-use borrow.Author.Tests.{eq-eqb, ne-eqb}
+use borrow.Author.Tests.{eq-eqb, ne-eqb, eqb-true}
 use Rattle.grammar.specs.Rules.{same}
-use Rattle.grammar.proofs.Tests.{and-no}
+use Rattle.grammar.proofs.Tests.{clash, and-parts, and-no}
+
+pub same-refl : (a : List ℕ) → same a a ≡ true
+same-refl [] = refl
+same-refl (x ∷ a) = rw (eq-eqb x x refl) (same-refl a)
+
+pub same-true : (a b : List ℕ) → same a b ≡ true → a ≡ b
+same-true [] [] e = refl
+same-true [] (y ∷ b) e = clash e refl
+same-true (x ∷ a) [] e = clash e refl
+same-true (x ∷ a) (y ∷ b) e =
+    let h = and-parts (eqb x y) (same a b) e in
+    ap₂ _∷_ (eqb-true x y (h .0)) (same-true a b (h .1))
 
 pub same-length-no : (a b : List ℕ) → (length a ≡ length b → ⊥) → same a b ≡ false
 same-length-no [] [] n = absurd (n refl)

@@ -41,10 +41,13 @@ _⇒_ {A} {B} g h = give (λ (v : A × B). v .1) (g ▸ h)
 abbrev pub digit : Class
 digit = range "0" "9"
 
--- the number that digits write, after digits that write n
+-- the number that a text writes to a base, after digits that write n; `zero` is the byte of the digit 0
+abbrev pub numeral : ℕ → ℕ → ℕ → List ℕ → ℕ
+numeral base zero n [] = n
+numeral base zero n (b ∷ s) = numeral base zero (n * base + (b - zero)) s
+
 abbrev pub decimal : ℕ → List ℕ → ℕ
-decimal n [] = n
-decimal n (b ∷ s) = decimal (n * 10 + (b - 48)) s
+decimal n s = numeral 10 48 n s
 
 -- 1 to hi digits
 abbrev pub number : ℕ → Grammar ℕ

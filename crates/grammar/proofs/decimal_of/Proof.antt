@@ -3,12 +3,11 @@
 use borrow.Author.Needs.{needs}
 use Prim.Native.Nat.{ℕ, _+_, _-_, _*_, _≤_, _<_}
 use native.Mathlib.Omega.{arith}
-use mathlib.Core.Path.{_≡_, refl, sym, ap, _∙_}
+use mathlib.Core.Path.{_≡_, refl}
 use mathlib.Core.List.{List}
 use lib.ListN.{length, drop, getD}
-use lib.Seq.{drop-length}
-use Rattle.grammar.specs.Rules.{decimal, same}
-use Rattle.grammar.proofs.Decimals.{decimal-step, decimal-grows, decimal-below, decimal-small}
+use Rattle.grammar.specs.Rules.{decimal}
+use Rattle.grammar.proofs.Numerals.{numeral-below, numeral-next, numeral-end}
 use Rattle.grammar.proofs.Places.{span-at}
 use Rattle.grammar.proofs.decimal_of.Statement.{statement}
 use Rattle.grammar.proofs.decimal_of.Tie as tie
@@ -31,28 +30,24 @@ wide-requires c κs = search needs
 -- in a turn: the byte is a digit's, the next value makes the same number with the digits that are then left, and the number is small
 record Turn (d : List ℕ) (v i b : ℕ) : Type 0 where
   low : 48 ≤ b
-  high : b ≤ 57
-  same : decimal (v * 10 + (b - 48)) (drop (i + 1) d) ≡ decimal 0 d
-  small : decimal 0 d < 1000000
+  next : decimal (v * 10 + (b - 48)) (drop (i + 1) d) ≡ decimal 0 d
   grows : v * 10 + (b - 48) ≤ decimal 0 d
+  small : decimal 0 d < 1000000
 
 turn : (c : tie.After-wide Inv-loop μ-loop) → Turn (c .before .before .before .before .before .args .d .now) (c .before .before .before .loop .v) (c .before .before .before .loop .i) (c .wide .result)
 turn c =
     let start = c .before .before .before .before .before in
     let d = start .args .d .now in
-    let v = c .before .before .before .loop .v in
-    let i = c .before .before .before .loop .i in
-    let b = c .wide .result in
-    let e : b ≡ getD d i 0 = c .wide .ensures in
-    let h : i < length d = omega arith in
-    let g = span-at 48 57 d i (start .pre .1) h in
-    let same : decimal (v * 10 + (b - 48)) (drop (i + 1) d) ≡ decimal 0 d = rw e (sym (decimal-step d v i h) ∙ c .before .before .before .loop .inv .1) in
+    let l = c .before .before .before .loop in
+    let e : c .wide .result ≡ getD d (l .i) 0 = c .wide .ensures in
+    let h : l .i < length d = omega arith in
+    let g = span-at 48 57 d (l .i) (start .pre .1) h in
+    let n = numeral-next 10 48 (omega arith) d (l .v) (l .i) (c .wide .result) h e (l .inv .1) in
     record {
       low = omega arith;
-      high = omega arith;
-      same = same;
-      small = decimal-small d (start .pre .1) (start .pre .0);
-      grows = omega (arith, decimal-grows (v * 10 + (b - 48)) (drop (i + 1) d));
+      next = n .0;
+      grows = n .1;
+      small = numeral-below 10 48 (omega arith) d 6 (start .pre .1) (start .pre .0);
     }
 
 mul-v : tie.Need-mul-v Inv-loop μ-loop
@@ -71,15 +66,14 @@ loop-less : tie.Need-loop-less Inv-loop μ-loop
 loop-less c = omega arith
 
 loop-again : tie.Need-loop-again Inv-loop μ-loop
-loop-again c = (omega arith, turn c .same)
+loop-again c = (omega arith, turn c .next)
 
 returns : tie.Need-returns Inv-loop μ-loop
 returns c =
     let d = c .before .before .before .args .d .now in
     let v = c .before .loop .v in
-    let e : c .before .loop .i ≡ length d = omega arith in
-    let r : v ≡ decimal 0 d = ap (decimal v) (sym (drop-length d) ∙ ap (λ (n : ℕ). drop n d) (sym e)) ∙ c .before .loop .inv .1 in
-    (r, rw r (decimal-below d (c .before .before .before .pre .1)))
+    let r : v ≡ decimal 0 d = numeral-end 10 48 d v (c .before .loop .i) (omega arith) (c .before .loop .inv .1) in
+    (r, rw r (numeral-below 10 48 (omega arith) d (length d) (c .before .before .before .pre .1) (omega arith)))
 
 pub decimal-of-spec : {M : Type 1} → statement M
 decimal-of-spec =
