@@ -14,7 +14,7 @@ use Rattle.date_text.specs.declared.TimeAt.{TimeAt}
 use Rattle.date_text.specs.declared.DayAt.{DayAt}
 use Rattle.date_text.specs.declared.MonthAt.{MonthAt}
 use Rattle.date_text.specs.declared.WrittenAt.{WrittenAt}
-use Rattle.date_text.specs.declared.DateAnswer.{DateAnswer}
+use Rattle.date_text.specs.declared.WrittenAnswer.{WrittenAnswer}
 
 abbrev pub zoneIn : List ℕ → ZoneAt → Scanned Zone
 zoneIn s (ZoneAt.Found z next) = found z (drop next s)
@@ -45,6 +45,6 @@ writtenIn s (WrittenAt.Found w next) = found w (drop next s)
 writtenIn s WrittenAt.Nothing = nothing
 
 -- the answer to a whole text
-abbrev pub dateAnswer : Option Written → DateAnswer
-dateAnswer none = DateAnswer.Refused
-dateAnswer (some w) = DateAnswer.Read w
+abbrev pub writtenAnswer : Option Written → WrittenAnswer
+writtenAnswer none = WrittenAnswer.Refused
+writtenAnswer (some w) = WrittenAnswer.Read w

@@ -10,7 +10,7 @@ ghost use Rattle.grammar.specs.Reader.{scan, read, given, paired};
 ghost use Rattle.grammar.specs.Rules.{span, number};
 ghost use Rattle.grammar.specs.Answers.{numberIn};
 ghost use Rattle.date_text.specs.DateRule.{fraction, fractionPart, secondPart, minutePart, zoneMinutes, utcName, zoneName, zoneOffset, zone, zonePart, timePart, midnight, dayPart, monthPart, writtenOf, date};
-ghost use Rattle.date_text.specs.Answers.{zoneIn, secondIn, minuteIn, timeIn, dayIn, monthIn, writtenIn, dateAnswer};
+ghost use Rattle.date_text.specs.Answers.{zoneIn, secondIn, minuteIn, timeIn, dayIn, monthIn, writtenIn, writtenAnswer};
 use grammar::EndAt;
 use grammar::NumberAt;
 use grammar::decimal_of;
@@ -84,7 +84,7 @@ pub enum WrittenAt {
 }
 
 // The answer to a whole text.
-pub enum DateAnswer {
+pub enum WrittenAnswer {
     Read(Written),
     Refused,
 }
@@ -364,14 +364,14 @@ pub fn date_at(s: &[u8], at: usize) -> WrittenAt
 }
 
 // A whole text that is a date.
-pub fn read_date(s: &[u8]) -> DateAnswer
-    ensures { λ r. ⌜ r ≡ dateAnswer (read date (now (s .entry))) ⌝ }
+pub fn read_date(s: &[u8]) -> WrittenAnswer
+    ensures { λ r. ⌜ r ≡ writtenAnswer (read date (now (s .entry))) ⌝ }
 {
     let WrittenAt::Found(w, e) = date_at(s, 0) else {
-        return DateAnswer::Refused;
+        return WrittenAnswer::Refused;
     };
     if e < s.len() {
-        return DateAnswer::Refused;
+        return WrittenAnswer::Refused;
     }
-    DateAnswer::Read(w)
+    WrittenAnswer::Read(w)
 }

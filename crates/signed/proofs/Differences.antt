@@ -1,16 +1,17 @@
 -- The integer n - b, written `subℕ n b`: each law turns a fact on such integers into one on natural numbers, which `omega` reads.
 use mathlib.Core.Path.{_≡_, refl, sym, ap, _∙_}
-use mathlib.Core.Bool.{Bool, true, false, cond}
+use mathlib.Core.Bool.{Bool, true, false, not, cond, true≢false}
 use Prim.Native.Nat.{ℕ, zero, suc, _+_, _-_, _<_, _≤_, _^_}
 use native.Mathlib.Omega.{arith}
 use lib.Dec.{leb, ltb}
-use lib.IntN.{ℤ, pos, negsuc, sucℤ, predℤ, subℕ, pred-suc}
-use lib.Signed.{leZ, mag}
+use lib.IntN.{ℤ, pos, negsuc, sucℤ, predℤ, subℕ, pred-suc, pos-ne-negsuc}
+use lib.Signed.{leZ, ltZ, mag}
 use mir.Syntax.{w64}
 use mir.Val.{SFits}
-use borrow.Author.Tests.{ltb-true, ltb-false, lt-ltb, le-ltb, le-leb, lt-leb, leb-true, leb-false}
+use borrow.Author.Tests.{ltb-true, ltb-false, lt-ltb, le-ltb, le-leb, lt-leb, leb-true, leb-false, not-true, not-false}
 use Rattle.signed.specs.Bias.{lift, raise, lower}
 use Rattle.signed.proofs.Tests.{test-is}
+use Rattle.signed.proofs.Order.{lt-not-le}
 
 -- ---- the two forms
 
@@ -34,6 +35,15 @@ pub lift-is : (z : ℤ) (b : ℕ) → (z ≡ negsuc (mag z) → mag z < b) → s
 lift-is (pos n) b h = sub-high (n + b) b (omega arith) ∙ ap pos (omega arith)
 lift-is (negsuc n) b h = sub-low (b - suc n) b (omega (arith, h refl)) ∙ ap negsuc (omega (arith, h refl))
 
+-- a number that is not at most -b
+pub above-least : (z : ℤ) (b : ℕ) → leZ z (subℕ 0 b) ≡ false → z ≡ negsuc (mag z) → mag z < b
+above-least (pos n) b h e = absurd (pos-ne-negsuc n n e)
+above-least (negsuc n) zero h e = absurd (true≢false h)
+above-least (negsuc n) (suc b) h e = leb-below b n (ap (leZ (negsuc n)) (sym (sub-low 0 (suc b) (omega arith))) ∙ h)
+  where
+    leb-below : (b n : ℕ) → leb (suc b - 1) n ≡ false → n < suc b
+    leb-below b n g = omega (arith, leb-false (suc b - 1) n g)
+
 pub lift-sub : (n b : ℕ) → lift (subℕ n b) b ≡ n
 lift-sub n b = by-sign (λ (z : ℤ). lift z b ≡ n) n b (λ h. omega arith) (λ h. omega arith)
 
@@ -56,7 +66,7 @@ same-diff a b c d e =
     (λ h. ap negsuc (omega arith) ∙ sym (sub-low c d (omega arith)))
     (λ h. ap pos (omega arith) ∙ sym (sub-high c d (omega arith)))
 
-suc-of : (n : ℕ) → sucℤ (negsuc n) ≡ subℕ 0 n
+pub suc-of : (n : ℕ) → sucℤ (negsuc n) ≡ subℕ 0 n
 suc-of zero = refl
 suc-of (suc n) = sym (sub-low 0 (suc n) (omega arith) ∙ ap negsuc (omega arith))
 
@@ -78,6 +88,24 @@ sub-le m n b =
     (λ h. by-sign (λ (z : ℤ). leZ (pos (m - b)) z ≡ leb m n) n b
     (λ g. sym (lt-leb m n (omega arith)))
     (λ g. test-is _ _ (λ e. le-leb m n (omega (arith, leb-true (m - b) (n - b) e))) (λ e. lt-leb m n (omega (arith, leb-false (m - b) (n - b) e)))))
+
+pub sub-lt : (m n b : ℕ) → ltZ (subℕ m b) (subℕ n b) ≡ ltb m n
+sub-lt m n b =
+    lt-not-le (subℕ m b) (subℕ n b)
+    ∙ (ap not (sub-le n m b) ∙ test-is (not (leb n m)) (ltb m n) (λ e. lt-ltb m n (leb-false n m (not-true (leb n m) e))) (λ e. le-ltb m n (leb-true n m (not-false (leb n m) e))))
+
+-- two integers as differences from one number
+pub record Common (x y : ℤ) : Type 0 where
+  pub least : ℕ
+  pub left : ℕ
+  pub right : ℕ
+  pub is-left : subℕ left least ≡ x
+  pub is-right : subℕ right least ≡ y
+
+pub common : (x y : ℤ) → Common x y
+common x y =
+    let b = suc (mag x + mag y) in
+    record { least = b; left = lift x b; right = lift y b; is-left = lift-is x b (λ e. omega arith); is-right = lift-is y b (λ e. omega arith) }
 
 -- ---- what fits 64 bits
 
