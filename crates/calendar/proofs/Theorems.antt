@@ -11,10 +11,11 @@ use Rattle.signed.proofs.Tests.{and-parts}
 use Rattle.signed.proofs.Differences.{sub-low, sub-high}
 use Rattle.calendar.specs.Calendar.{hasYearZero, isYear, kind, next, prev, dateOf, exists, inYears, date}
 use Rattle.calendar.specs.Order.{earlier}
-use Rattle.calendar.specs.Answers.{dayNumber}
+use Rattle.calendar.specs.Answers.{dayNumber, dayAnswer, pickDayAnswer}
 use Rattle.calendar.specs.Closed.{yearAt, monthStart, dayAt, base}
 use Rattle.calendar.specs.declared.Calendar.{Calendar}
 use Rattle.calendar.specs.declared.Date.{Date}
+use Rattle.calendar.specs.declared.DayAnswer.{DayAnswer}
 use Rattle.calendar.proofs.Existing.{date-eq, Valid, valid-of, valid-year}
 use Rattle.calendar.proofs.Labels.{year-low, year-high}
 use Rattle.calendar.proofs.Following as Following
