@@ -7,11 +7,11 @@
 //!
 //! `boundary` has a counterpart for each call of the C boundary. It is slow, and nothing in it is proved.
 
-pub mod answers;
 pub mod axis;
 pub mod boundary;
 pub mod calendar;
 pub mod calendar_mode;
+pub mod codes;
 pub mod date_text;
 pub mod days;
 pub mod dyadic;
