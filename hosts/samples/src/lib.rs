@@ -1,6 +1,9 @@
 //! Inputs for comparisons and measurements, drawn from a seed, so that they are the same on every machine.
 
+pub mod doubles;
 pub mod instants;
 pub mod random;
+pub mod texts;
+pub mod wholes;
 
 pub use random::Random;

@@ -36,4 +36,10 @@ impl Random {
     pub fn pick<T: Copy>(&mut self, list: &[T]) -> T {
         list[self.below(list.len() as u64) as usize]
     }
+
+    /// One of the list, or, as often as each of them, any number below a bound.
+    pub fn pick_or_below(&mut self, list: &[u64], bound: u64) -> u64 {
+        let place = self.below(list.len() as u64 + 1) as usize;
+        list.get(place).copied().unwrap_or_else(|| self.below(bound))
+    }
 }

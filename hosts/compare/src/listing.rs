@@ -1,0 +1,63 @@
+//! The listing program against the second program's listing, on lines good and damaged, long and short.
+
+use crate::run::Run;
+use samples::texts;
+use std::io::Write;
+use std::path::{Path, PathBuf};
+use std::process::{Command, Stdio};
+
+fn program() -> PathBuf {
+    Path::new(env!("CARGO_MANIFEST_DIR")).join("../../target/bin/listing")
+}
+
+/// What the program prints for an input.
+fn printed(input: &[u8]) -> Vec<u8> {
+    let mut child = Command::new(program())
+        .stdin(Stdio::piped())
+        .stdout(Stdio::piped())
+        .spawn()
+        .expect("target/bin/listing, which rt check builds");
+    let mut stdin = child.stdin.take().expect("piped");
+    let input = input.to_vec();
+    let writer = std::thread::spawn(move || stdin.write_all(&input));
+    let output = child.wait_with_output().expect("the program ends").stdout;
+    writer.join().expect("no panic").expect("the program reads all its input");
+    output
+}
+
+/// The number that a printed line shows.
+fn number(line: &str) -> u32 {
+    line.strip_prefix("refused ").map_or(0, |digit| digit.parse().unwrap_or(0))
+}
+
+pub fn listing(run: &mut Run) {
+    let mut lines = Vec::new();
+    for _ in 0..run.count(200_000, 3_000_000) {
+        lines.push(texts::line(&mut run.random));
+    }
+    let input: Vec<u8> = lines.iter().flat_map(|(_, line)| line.iter().chain(b"\n")).copied().collect();
+    let output = printed(&input);
+    let mut rows = output.split(|&byte| byte == b'\n');
+    for (kind, line) in &lines {
+        let second = second::listing::answer(line);
+        let ours = String::from_utf8_lossy(rows.next().unwrap_or(b"(no line)")).into_owned();
+        run.judge(kind, number(&second), &String::from_utf8_lossy(line), ours, second);
+    }
+    run.expect("all lines", &"", rows.eq([b""]), "more output than input, or a last line without its newline");
+    whole_inputs(run);
+}
+
+/// Short inputs by themselves, most without a newline at their end.
+fn whole_inputs(run: &mut Run) {
+    for turn in 0..run.count(200, 2000) {
+        let count = turn % 4;
+        let mut input: Vec<u8> =
+            (0..count).flat_map(|_| texts::line(&mut run.random).1.into_iter().chain([b'\n'])).collect();
+        if run.random.one_in(2) {
+            input.pop();
+        }
+        let second = second::listing::listing(&input);
+        let ours = String::from_utf8_lossy(&printed(&input)).into_owned();
+        run.judge("whole inputs of 0 to 3 lines", 0, &String::from_utf8_lossy(&input), ours, second);
+    }
+}
