@@ -4,17 +4,19 @@
 #[cfg(feature = "stub")]
 extern crate stub as _;
 
-use bench::{measure, timing};
+use bench::measure::{calendars, offsets, runs, texts};
+use bench::timing;
 
-const MEASUREMENTS: [(&str, fn()); 8] = [
-    ("dates", measure::dates),
-    ("days", measure::days),
-    ("fields", measure::fields),
-    ("doubles", measure::runs_of_doubles),
-    ("wholes", measure::runs_of_wholes),
-    ("iso", measure::iso_writing),
-    ("units", measure::units),
-    ("writing", measure::writing),
+const MEASUREMENTS: [(&str, fn()); 9] = [
+    ("dates", calendars::dates),
+    ("days", calendars::days),
+    ("fields", calendars::fields),
+    ("double", offsets::reading),
+    ("doubles", runs::doubles),
+    ("wholes", runs::wholes),
+    ("iso", texts::iso),
+    ("units", texts::units),
+    ("writing", offsets::writing),
 ];
 
 fn main() {

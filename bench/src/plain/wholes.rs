@@ -43,8 +43,11 @@ pub struct Start {
 }
 
 impl Start {
-    /// Of a good axis.
+    /// Of a good axis. Only calendar steps need the reference's fields.
     pub fn of(axis: Axis) -> Start {
+        if !period::is_calendar_step(axis) {
+            return Start { axis, fields: Fields::default(), months: 0 };
+        }
         let fields = clock::fields(axis.calendar, axis.reference);
         Start { axis, fields, months: month_count(axis.calendar, fields) }
     }

@@ -1,7 +1,7 @@
 //! The listing program against the second program's listing, on lines good and damaged, long and short.
 
 use crate::run::Run;
-use samples::texts;
+use samples::lines;
 use std::io::Write;
 use std::path::{Path, PathBuf};
 use std::process::{Command, Stdio};
@@ -31,14 +31,14 @@ fn number(line: &str) -> u32 {
 }
 
 pub fn listing(run: &mut Run) {
-    let mut lines = Vec::new();
+    let mut drawn = Vec::new();
     for _ in 0..run.count(200_000, 3_000_000) {
-        lines.push(texts::line(&mut run.random));
+        drawn.push(lines::line(&mut run.random));
     }
-    let input: Vec<u8> = lines.iter().flat_map(|(_, line)| line.iter().chain(b"\n")).copied().collect();
+    let input: Vec<u8> = drawn.iter().flat_map(|(_, line)| line.iter().chain(b"\n")).copied().collect();
     let output = printed(&input);
     let mut rows = output.split(|&byte| byte == b'\n');
-    for (kind, line) in &lines {
+    for (kind, line) in &drawn {
         let second = second::listing::answer(line);
         let ours = String::from_utf8_lossy(rows.next().unwrap_or(b"(no line)")).into_owned();
         run.judge(kind, number(&second), &String::from_utf8_lossy(line), ours, second);
@@ -52,7 +52,7 @@ fn whole_inputs(run: &mut Run) {
     for turn in 0..run.count(200, 2000) {
         let count = turn % 4;
         let mut input: Vec<u8> =
-            (0..count).flat_map(|_| texts::line(&mut run.random).1.into_iter().chain([b'\n'])).collect();
+            (0..count).flat_map(|_| lines::line(&mut run.random).1.into_iter().chain([b'\n'])).collect();
         if run.random.one_in(2) {
             input.pop();
         }

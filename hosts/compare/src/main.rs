@@ -21,7 +21,9 @@ mod writing;
 use run::{Run, Scale};
 use std::process::ExitCode;
 
-const COMPARISONS: [(&str, fn(&mut Run)); 13] = [
+type Comparison = (&'static str, fn(&mut Run));
+
+const COMPARISONS: [Comparison; 13] = [
     ("date_of_day", calendars::date_of_day),
     ("day_of_date", calendars::day_of_date),
     ("fields_of", calendars::fields_of),
