@@ -1,16 +1,17 @@
--- Signed numbers as biased natural numbers: the integer n - b as `subℕ n b`. Each law turns a fact on such integers into one that `omega` reads.
-use mathlib.Core.Path.{_≡_, refl, sym, ap, _∙_, subst}
-use mathlib.Core.Bool.{Bool, true, false, not, cond}
-use Prim.Native.Nat.{ℕ, zero, suc, pred, _+_, _-_, _<_, _≤_, _^_}
+-- The integer n - b, written `subℕ n b`: each law turns a fact on such integers into one on natural numbers, which `omega` reads.
+use mathlib.Core.Path.{_≡_, refl, sym, ap, _∙_}
+use mathlib.Core.Bool.{Bool, true, false, not, cond, true≢false}
+use Prim.Native.Nat.{ℕ, zero, suc, _+_, _-_, _<_, _≤_, _^_}
 use native.Mathlib.Omega.{arith}
-use lib.Dec.{T, leb, ltb, eqb}
-use lib.IntN.{ℤ, pos, negsuc, sucℤ, predℤ, subℕ, negℤ, _+ℤ_, _-ℤ_, negℤ-negℤ, +ℤ-idl}
-use native.Mathlib.Nat.{not-suc-le-zero}
-use mir.Syntax.{w64}
-use mir.Val.{SFits, toZ, ofZ}
-use mir.ValLaws.{toZ-ofZ, toZ-pos}
+use lib.Dec.{leb, ltb}
+use lib.IntN.{ℤ, pos, negsuc, sucℤ, predℤ, subℕ, pred-suc, pos-ne-negsuc}
 use lib.Signed.{leZ, ltZ, mag}
-use borrow.Author.Tests.{eqb-true, eqb-false, ltb-true, ltb-false, lt-ltb, le-ltb, le-leb, lt-leb, eq-eqb, ne-eqb, leb-true, leb-false}
+use mir.Syntax.{w64}
+use mir.Val.{SFits}
+use borrow.Author.Tests.{ltb-true, ltb-false, lt-ltb, le-ltb, le-leb, lt-leb, leb-true, leb-false, not-true, not-false}
+use Rattle.signed.specs.Bias.{lift, raise, lower}
+use Rattle.signed.proofs.Tests.{test-is}
+use Rattle.signed.proofs.Order.{lt-not-le}
 
 -- ---- the two forms
 
@@ -28,15 +29,20 @@ by-sign P n b f g = go (ltb n b) refl
     go true e = f (ltb-true n b e)
     go false e = g (ltb-false n b e)
 
--- ---- a number from -b on has the form
+-- ---- every number from -b on has the form
 
-abbrev pub lift : ℤ → ℕ → ℕ
-lift (pos n) b = n + b
-lift (negsuc n) b = b - suc n
+pub lift-is : (z : ℤ) (b : ℕ) → (z ≡ negsuc (mag z) → mag z < b) → subℕ (lift z b) b ≡ z
+lift-is (pos n) b h = sub-high (n + b) b (omega arith) ∙ ap pos (omega arith)
+lift-is (negsuc n) b h = sub-low (b - suc n) b (omega (arith, h refl)) ∙ ap negsuc (omega (arith, h refl))
 
-pub lift-is : (z : ℤ) (b : ℕ) → (z ≡ negsuc (mag z) → mag z < b) → z ≡ subℕ (lift z b) b
-lift-is (pos n) b h = ap pos (omega arith) ∙ sym (sub-high (n + b) b (omega arith))
-lift-is (negsuc n) b h = ap negsuc (omega (arith, h refl)) ∙ sym (sub-low (b - suc n) b (omega (arith, h refl)))
+-- a number that is not at most -b
+pub above-least : (z : ℤ) (b : ℕ) → leZ z (subℕ 0 b) ≡ false → z ≡ negsuc (mag z) → mag z < b
+above-least (pos n) b h e = absurd (pos-ne-negsuc n n e)
+above-least (negsuc n) zero h e = absurd (true≢false h)
+above-least (negsuc n) (suc b) h e = leb-below b n (ap (leZ (negsuc n)) (sym (sub-low 0 (suc b) (omega arith))) ∙ h)
+  where
+    leb-below : (b n : ℕ) → leb (suc b - 1) n ≡ false → n < suc b
+    leb-below b n g = omega (arith, leb-false (suc b - 1) n g)
 
 pub lift-sub : (n b : ℕ) → lift (subℕ n b) b ≡ n
 lift-sub n b = by-sign (λ (z : ℤ). lift z b ≡ n) n b (λ h. omega arith) (λ h. omega arith)
@@ -44,17 +50,25 @@ lift-sub n b = by-sign (λ (z : ℤ). lift z b ≡ n) n b (λ h. omega arith) (�
 pub sub-inj : (m n b : ℕ) → subℕ m b ≡ subℕ n b → m ≡ n
 sub-inj m n b e = sym (lift-sub m b) ∙ (ap (λ (z : ℤ). lift z b) e ∙ lift-sub n b)
 
--- ---- successor, predecessor, order, equality
+-- a signed 64-bit number is its natural number less 2^63
+pub lower-raise : (z : ℤ) → SFits w64 z → lower (raise z) ≡ z
+lower-raise z f = lift-is z 9223372036854775808 (λ e. omega (arith, f .sfits))
 
-suc-of : (n : ℕ) → sucℤ (negsuc n) ≡ subℕ 0 n
-suc-of zero = refl
-suc-of (suc n) = sym (sub-low 0 (suc n) (omega arith) ∙ ap negsuc (omega arith))
+pub raise-small : (z : ℤ) → SFits w64 z → raise z < 2 ^ 64
+raise-small (pos n) f = omega (arith, f .sfits)
+raise-small (negsuc n) f = omega arith
 
-same-diff : (a b c d : ℕ) → a + d ≡ c + b → subℕ a b ≡ subℕ c d
+-- ---- equal differences, neighbours, order
+
+pub same-diff : (a b c d : ℕ) → a + d ≡ c + b → subℕ a b ≡ subℕ c d
 same-diff a b c d e =
     by-sign (λ (z : ℤ). z ≡ subℕ c d) a b
     (λ h. ap negsuc (omega arith) ∙ sym (sub-low c d (omega arith)))
     (λ h. ap pos (omega arith) ∙ sym (sub-high c d (omega arith)))
+
+pub suc-of : (n : ℕ) → sucℤ (negsuc n) ≡ subℕ 0 n
+suc-of zero = refl
+suc-of (suc n) = sym (sub-low 0 (suc n) (omega arith) ∙ ap negsuc (omega arith))
 
 pub sub-suc : (n b : ℕ) → sucℤ (subℕ n b) ≡ subℕ (suc n) b
 sub-suc n b =
@@ -63,12 +77,7 @@ sub-suc n b =
     (λ h. ap pos (omega arith) ∙ sym (sub-high (suc n) b (omega arith)))
 
 pub sub-pred : (n b : ℕ) → predℤ (subℕ (suc n) b) ≡ subℕ n b
-sub-pred n b = ap predℤ (sym (sub-suc n b)) ∙ lib.IntN.pred-suc (subℕ n b)
-
--- a test is settled by what it implies
-pub test-is : (s t : Bool) → (s ≡ true → t ≡ true) → (s ≡ false → t ≡ false) → s ≡ t
-test-is true t f g = sym (f refl)
-test-is false t f g = sym (g refl)
+sub-pred n b = ap predℤ (sym (sub-suc n b)) ∙ pred-suc (subℕ n b)
 
 pub sub-le : (m n b : ℕ) → leZ (subℕ m b) (subℕ n b) ≡ leb m n
 sub-le m n b =
@@ -80,11 +89,25 @@ sub-le m n b =
     (λ g. sym (lt-leb m n (omega arith)))
     (λ g. test-is _ _ (λ e. le-leb m n (omega (arith, leb-true (m - b) (n - b) e))) (λ e. lt-leb m n (omega (arith, leb-false (m - b) (n - b) e)))))
 
--- ---- a literal, in the form: `at 1582` is `subℕ 11582 10000` where b is 10000
-pub pos-sub : (n b : ℕ) → pos n ≡ subℕ (n + b) b
-pos-sub n b = lift-is (pos n) b (λ e. absurd (lib.IntN.pos-ne-negsuc n n e))
+pub sub-lt : (m n b : ℕ) → ltZ (subℕ m b) (subℕ n b) ≡ ltb m n
+sub-lt m n b =
+    lt-not-le (subℕ m b) (subℕ n b)
+    ∙ (ap not (sub-le n m b) ∙ test-is (not (leb n m)) (ltb m n) (λ e. lt-ltb m n (leb-false n m (not-true (leb n m) e))) (λ e. le-ltb m n (leb-true n m (not-false (leb n m) e))))
 
--- ---- the absolute value, for divisibility: k divides n - b where it divides n, if it divides b
-pub zero-test : (m n : ℕ) → (m ≡ 0 → n ≡ 0) → (n ≡ 0 → m ≡ 0) → eqb m 0 ≡ eqb n 0
-zero-test m n f g = test-is _ _ (λ e. eq-eqb n 0 (f (eqb-true m 0 e))) (λ e. ne-eqb n 0 (λ h. eqb-false m 0 e (g h)))
+-- two integers as differences from one number
+pub record Common (x y : ℤ) : Type 0 where
+  pub least : ℕ
+  pub left : ℕ
+  pub right : ℕ
+  pub is-left : subℕ left least ≡ x
+  pub is-right : subℕ right least ≡ y
 
+pub common : (x y : ℤ) → Common x y
+common x y =
+    let b = suc (mag x + mag y) in
+    record { least = b; left = lift x b; right = lift y b; is-left = lift-is x b (λ e. omega arith); is-right = lift-is y b (λ e. omega arith) }
+
+-- ---- what fits 64 bits
+
+pub sub-fits : (n b : ℕ) → n < 2 ^ 63 → b < 2 ^ 63 → SFits w64 (subℕ n b)
+sub-fits n b p q = by-sign (λ (z : ℤ). SFits w64 z) n b (λ h. record { sfits = omega arith }) (λ h. record { sfits = omega arith })

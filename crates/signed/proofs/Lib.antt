@@ -1,2 +1,4 @@
+pub mod Tests
+pub mod Order
 pub mod Differences
 pub mod Machine

@@ -1,16 +1,19 @@
--- A signed 64-bit number as a natural number: n + 2^63, and back.
+-- A signed number as a natural number: n + b for a bias b that is large enough, and back.
 use Prim.Native.Nat.{ℕ, suc, _+_, _-_}
 use lib.IntN.{ℤ, pos, negsuc, subℕ}
+
+-- n + b, of a number n that is not below -b; `negsuc n` is -(n + 1)
+abbrev pub lift : ℤ → ℕ → ℕ
+lift (pos n) b = n + b
+lift (negsuc n) b = b - suc n
 
 -- 2^63
 abbrev pub bias : ℕ
 bias = 9223372036854775808
 
--- n + 2^63, of a number that is not below -2^63; `negsuc n` is -(n + 1)
 abbrev pub raise : ℤ → ℕ
-raise (pos n) = n + bias
-raise (negsuc n) = bias - suc n
+raise z = lift z bias
 
--- k - 2^63; `subℕ k b` is the integer k - b
+-- `subℕ k b` is the integer k - b
 abbrev pub lower : ℕ → ℤ
 lower k = subℕ k bias

@@ -23,25 +23,25 @@ sub-result : tie.Need-sub-result
 sub-result c = search needs
 
 sub-result-2 : tie.Need-sub-result-2
-sub-result-2 c = ?
+sub-result-2 c = below c .fits
 
 cast-result : tie.Need-cast-result
-cast-result c = ?
+cast-result c = subst (λ (z : ℤ). T (nonNeg z) × Fits w64 (natAbs z)) (sym (below c .is)) (tt, record { fits = omega (arith, below c .small) })
 
 sub-result-3 : tie.Need-sub-result-3
-sub-result-3 c = ?
+sub-result-3 c = omega (arith, ap natAbs (below c .is), below c .small)
 
 returns : tie.Need-returns
-returns c = ?
+returns c = ap (λ (z : ℤ). 9223372036854775807 - natAbs z) (below c .is) ∙ (omega arith ∙ ap raise (sym (below c .form)))
 
 cast-result-2 : tie.Need-cast-result-2
-cast-result-2 c = ?
+cast-result-2 c = subst (λ (z : ℤ). T (nonNeg z) × Fits w64 (natAbs z)) (sym (above c .is)) (tt, record { fits = omega (arith, above c .small) })
 
 add-result : tie.Need-add-result
-add-result c = ?
+add-result c = record { fits = omega (arith, ap natAbs (above c .is), above c .small) }
 
 returns-2 : tie.Need-returns-2
-returns-2 c = ?
+returns-2 c = ap (λ (z : ℤ). natAbs z + 9223372036854775808) (above c .is) ∙ ap raise (sym (above c .form))
 
 pub biased-spec : {M : Type 1} → statement M
 biased-spec =

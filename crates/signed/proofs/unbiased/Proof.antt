@@ -1,4 +1,13 @@
+-- `signed::unbiased` meets its contract. Assumes nothing.
+use mathlib.Core.Path.{sym, ap, _∙_}
+use Prim.Native.Nat.{suc, _-_}
+use native.Mathlib.Omega.{arith}
+use lib.IntN.{negsuc}
+use mir.Syntax.{w64}
+use mir.ValLaws.{toZ-pos}
 use borrow.Author.Needs.{needs}
+use Rattle.signed.proofs.Differences.{sub-low, sub-high}
+use Rattle.signed.proofs.Machine.{below-fits, below-read}
 use Rattle.signed.proofs.unbiased.Statement.{statement}
 use Rattle.signed.proofs.unbiased.Tie as tie
 
@@ -12,16 +21,20 @@ cast-result : tie.Need-cast-result
 cast-result c = search needs
 
 sub-result-3 : tie.Need-sub-result-3
-sub-result-3 c = ?
+sub-result-3 c = below-fits (9223372036854775807 - c .before .args .k) (omega arith)
 
 returns : tie.Need-returns
-returns c = ?
+returns c =
+    let k = c .before .args .k in
+    below-read (9223372036854775807 - k) (omega arith) ∙ (ap negsuc (omega arith) ∙ sym (sub-low k 9223372036854775808 (omega arith)))
 
 cast-result-2 : tie.Need-cast-result-2
 cast-result-2 c = search needs
 
 returns-2 : tie.Need-returns-2
-returns-2 c = ?
+returns-2 c =
+    let k = c .before .args .k in
+    toZ-pos w64 (k - 9223372036854775808) (omega arith) ∙ sym (sub-high k 9223372036854775808 (omega arith))
 
 pub unbiased-spec : {M : Type 1} → statement M
 unbiased-spec =

@@ -1,0 +1,14 @@
+pub mod Years
+pub mod Tables
+pub mod Places
+pub mod Existing
+pub mod Following
+pub mod Ordered
+pub mod Labels
+pub mod Plain
+pub mod Mixed
+pub mod Range
+pub mod Numbering
+pub mod Answering
+pub mod Counting
+pub mod Theorems

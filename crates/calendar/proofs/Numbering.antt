@@ -1,0 +1,55 @@
+-- The day number of a date is the number whose date it is.
+use mathlib.Core.Path.{_≡_, refl, sym, ap, _∙_}
+use mathlib.Core.Bool.{Bool, true, false, cond, _&&_}
+use Prim.Native.Nat.{ℕ, zero, suc, _+_, _-_, _<_, _≤_}
+use native.Mathlib.Omega.{arith}
+use native.Mathlib.Decide.{decLe}
+use lib.Dec.{eqb}
+use lib.IntN.{ℤ, sucℤ, subℕ}
+use borrow.Author.Tests.{eqb-true, eq-eqb}
+use Rattle.signed.proofs.Tests.{and-parts, both, to-false}
+use Rattle.signed.proofs.Differences.{sub-suc, same-diff, sub-inj}
+use Rattle.calendar.specs.Calendar.{dateOf, inYears}
+use Rattle.calendar.specs.Order.{sameYear, sameDate}
+use Rattle.calendar.specs.Answers.{numberFrom, dayNumber}
+use Rattle.calendar.specs.Closed.{base}
+use Rattle.calendar.specs.declared.Calendar.{Calendar}
+use Rattle.calendar.specs.declared.Date.{Date}
+use Rattle.calendar.proofs.Existing.{date-eq}
+use Rattle.calendar.proofs.Ordered.{same-year, year-eq, one-day}
+use Rattle.calendar.proofs.Range.{near}
+
+same-of : (x y : Date) → sameDate x y ≡ true → x ≡ y
+same-of x y h =
+    let p = and-parts (sameYear (x .year) (y .year)) (eqb (x .month) (y .month) && eqb (x .day) (y .day)) h in
+    let q = and-parts (eqb (x .month) (y .month)) (eqb (x .day) (y .day)) (p .1) in
+    date-eq (year-eq (x .year) (y .year) (p .0)) (eqb-true (x .month) (y .month) (q .0)) (eqb-true (x .day) (y .day) (q .1))
+
+same-self : (x : Date) → sameDate x x ≡ true
+same-self x =
+    both (sameYear (x .year) (x .year)) (eqb (x .month) (x .month) && eqb (x .day) (x .day)) (same-year (x .year))
+    (both (eqb (x .month) (x .month)) (eqb (x .day) (x .day)) (eq-eqb (x .month) (x .month) refl) (eq-eqb (x .day) (x .day) refl))
+
+module _ (c : Calendar) where
+  -- the search finds the number n of a date, from any s at or below it
+  search : (x : Date) (k s n b : ℕ) → s ≤ n → n < s + k → dateOf c (subℕ n b) ≡ x → numberFrom c x k (subℕ s b) ≡ subℕ n b
+  unfolding numberFrom
+  search x zero s n b h g e = absurd (omega arith)
+  search x (suc k) s n b h g e =
+      elim (decLe (suc s) n) [
+        | yes l ↦
+            let other : sameDate (dateOf c (subℕ s b)) x ≡ false = to-false (sameDate (dateOf c (subℕ s b)) x) (λ u. omega (arith, sub-inj s n b (one-day c (subℕ s b) (subℕ n b) (same-of (dateOf c (subℕ s b)) x u ∙ sym e)))) in
+            ap (λ (t : Bool). cond t (subℕ s b) (numberFrom c x k (sucℤ (subℕ s b)))) other
+            ∙ (ap (numberFrom c x k) (sub-suc s b) ∙ search x k (suc s) n b l (omega arith) e)
+        | no l ↦
+            let at-n : s ≡ n = omega arith in
+            let here : sameDate (dateOf c (subℕ s b)) x ≡ true = ap (λ (d : Date). sameDate d x) (ap (λ (m : ℕ). dateOf c (subℕ m b)) at-n ∙ e) ∙ same-self x in
+            ap (λ (t : Bool). cond t (subℕ s b) (numberFrom c x k (sucℤ (subℕ s b)))) here ∙ ap (λ (m : ℕ). subℕ m b) at-n
+      ]
+
+  -- the day number of a date of the years -9999 to 9999
+  pub number-is : (x : Date) (z : ℤ) → inYears (x .year) ≡ true → dateOf c z ≡ x → dayNumber c x ≡ z
+  unfolding dayNumber
+  number-is x z h e =
+      let k = near c z (ap (λ (d : Date). inYears (d .year)) e ∙ h) in
+      search x 10000000 0 (k .number) 5000000 (omega arith) (k .low) (ap (dateOf c) (k .is) ∙ e) ∙ k .is

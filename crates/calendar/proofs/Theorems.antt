@@ -1,0 +1,84 @@
+-- What is proved of the calendars, in one place. `c` is any of the six calendars, z and w any integers.
+use mathlib.Core.Path.{_≡_, refl, sym, ap, _∙_, subst}
+use mathlib.Core.Bool.{Bool, true, false, not, _&&_}
+use Prim.Native.Nat.{ℕ, suc, _+_, _-_}
+use native.Mathlib.Omega.{arith}
+use lib.IntN.{ℤ, pos, negsuc, sucℤ, subℕ}
+use lib.Dec.{leb}
+use lib.Signed.{leZ, ltZ}
+use borrow.Author.Tests.{leb-true, eqb-false}
+use Rattle.signed.proofs.Tests.{and-parts}
+use Rattle.signed.proofs.Differences.{sub-low, sub-high}
+use Rattle.calendar.specs.Calendar.{hasYearZero, isYear, kind, next, prev, dateOf, exists, inYears, date}
+use Rattle.calendar.specs.Order.{earlier}
+use Rattle.calendar.specs.Answers.{dayNumber, dayAnswer, pickDayAnswer}
+use Rattle.calendar.specs.Closed.{yearAt, monthStart, dayAt, base}
+use Rattle.calendar.specs.declared.Calendar.{Calendar}
+use Rattle.calendar.specs.declared.Date.{Date}
+use Rattle.calendar.specs.declared.DayAnswer.{DayAnswer}
+use Rattle.calendar.proofs.Existing.{date-eq, Valid, valid-of, valid-year}
+use Rattle.calendar.proofs.Labels.{year-low, year-high}
+use Rattle.calendar.proofs.Following as Following
+use Rattle.calendar.proofs.Ordered as Ordered
+use Rattle.calendar.proofs.Range as Range
+use Rattle.calendar.proofs.Range.{lowDay, highDay}
+use Rattle.calendar.proofs.Counting.{numbered}
+use Rattle.calendar.proofs.Numbering.{number-is}
+
+-- the count of a year from -10000
+record Count (z : Bool) (y : ℤ) : Type 0 where
+  count : ℕ
+  is : yearAt z count ≡ y
+
+count-of : (z : Bool) (y : ℤ) → inYears y ≡ true → (not z && isYear 0 y) ≡ false → Count z y
+count-of true (pos n) h g = record { count = n + 10000; is = sub-high (n + 10000) 10000 (omega arith) ∙ ap pos (omega arith) }
+count-of true (negsuc n) h g =
+    let l = leb-true n 9998 (and-parts (leb n 9998) true h .0) in
+    record { count = 10000 - suc n; is = sub-low (10000 - suc n) 10000 (omega arith) ∙ ap negsuc (omega arith) }
+count-of false (pos n) h g =
+    let l = eqb-false n 0 g in
+    record { count = n + 10000; is = year-high (n + 10000) (omega arith) ∙ ap pos (omega arith) }
+count-of false (negsuc n) h g =
+    let l = leb-true n 9998 (and-parts (leb n 9998) true h .0) in
+    record { count = 10000 - n; is = year-low (10000 - n) (omega arith) ∙ ap negsuc (omega arith) }
+
+module _ (c : Calendar) where
+  -- undoing undoes
+  pub next-prev : (x : Date) → exists c x ≡ true → next c (prev c x) ≡ x
+  next-prev = Following.next-prev c
+
+  pub prev-next : (x : Date) → exists c x ≡ true → prev c (next c x) ≡ x
+  prev-next = Following.prev-next c
+
+  -- every day number has a date that exists, and the next number has the next date
+  pub dates-exist : (z : ℤ) → exists c (dateOf c z) ≡ true
+  dates-exist = Following.dates-exist c
+
+  pub next-date : (z : ℤ) → next c (dateOf c z) ≡ dateOf c (sucℤ z)
+  next-date = Following.next-date c
+
+  -- of two day numbers the less has the earlier date, and the other way round
+  pub order : (z w : ℤ) → earlier (dateOf c z) (dateOf c w) ≡ ltZ z w
+  order = Ordered.order c
+
+  -- no two day numbers share a date
+  pub one-day : (z w : ℤ) → dateOf c z ≡ dateOf c w → z ≡ w
+  one-day = Ordered.one-day c
+
+  -- the years -9999 to 9999 are those of the day numbers of an interval
+  pub range : (z : ℤ) → inYears (dateOf c z .year) ≡ (leZ (lowDay c) z && leZ z (highDay c))
+  range = Range.range c
+
+  -- there and back: a date of those years that exists is the date of its day number, and a day number is that of its date
+  pub date-of-number : (x : Date) → inYears (x .year) ≡ true → exists c x ≡ true → dateOf c (dayNumber c x) ≡ x
+  date-of-number x h g =
+      let v = valid-of c x g in
+      let y = count-of (hasYearZero c) (x .year) h (valid-year c x v) in
+      let e : x ≡ date (yearAt (hasYearZero c) (y .count)) (x .month) (x .day) = date-eq (sym (y .is)) refl refl in
+      let o = monthStart (kind c (yearAt (hasYearZero c) (y .count))) (x .month - 1) + (x .day - 1) in
+      let z = subℕ (dayAt c (y .count) o) (base c) in
+      let f : dateOf c z ≡ x = numbered c (y .count) (x .month) (x .day) o (subst (Valid c) e v) refl ∙ sym e in
+      ap (dateOf c) (number-is c x z h f) ∙ f
+
+  pub number-of-date : (z : ℤ) → inYears (dateOf c z .year) ≡ true → dayNumber c (dateOf c z) ≡ z
+  number-of-date z h = number-is c (dateOf c z) z h refl

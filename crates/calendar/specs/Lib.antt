@@ -1,0 +1,5 @@
+pub mod Calendar
+pub mod Order
+pub mod Answers
+pub mod Months
+pub mod Closed

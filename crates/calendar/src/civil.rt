@@ -1,0 +1,57 @@
+// From a day, counted from the first day of year -10000 (-10001 in `standard`), to its date.
+ghost use mathlib.Core.Path.{_≡_};
+ghost use Prim.Native.Nat.{_<_, _^_};
+ghost use lib.IntN.{subℕ};
+ghost use Rattle.calendar.specs.Calendar.{dateOf};
+ghost use Rattle.calendar.specs.Closed.{yearAt, Labelled, base};
+use crate::Calendar;
+use crate::Date;
+use crate::place;
+use crate::rule::Rule;
+
+// The name of year y, in a calendar with or without a year 0.
+fn year_name(zero: bool, y: u64) -> i64
+    requires { ⌜ y < 2 ^ 31 ⌝ }
+    ensures { λ r. ⌜ r ≡ yearAt zero y ⌝ }
+{
+    if zero {
+        return signed::unbiased(y + (0x8000_0000_0000_0000 - 10000));
+    }
+    if y <= 10000 {
+        return signed::unbiased(y + (0x8000_0000_0000_0000 - 10001));
+    }
+    return signed::unbiased(y + (0x8000_0000_0000_0000 - 10000));
+}
+
+// The date of day n of a rule.
+fn date_by_rule(zero: bool, r: Rule, n: u64) -> Date
+    requires { ⌜ n < 2 ^ 30 ⌝ }
+    ensures { λ d. ⌜ Labelled zero r n d ⌝ }
+{
+    let p = place::place_of(r, n);
+    Date {
+        year: year_name(zero, p.y),
+        month: (p.m + 1) as u32,
+        day: (p.i + 1) as u32,
+    }
+}
+
+// The date of day n of a calendar.
+pub fn date_at(c: Calendar, n: u64) -> Date
+    requires { ⌜ n < 2 ^ 30 ⌝ }
+    ensures { λ d. ⌜ d ≡ dateOf c (subℕ n (base c)) ⌝ }
+{
+    match c {
+        Calendar::Standard => {
+            if n < 4230603 {
+                return date_by_rule(false, Rule::FourYearly, n);
+            }
+            return date_by_rule(false, Rule::Gregorian, n - 77);
+        }
+        Calendar::ProlepticGregorian => return date_by_rule(true, Rule::Gregorian, n),
+        Calendar::Julian => return date_by_rule(true, Rule::FourYearly, n),
+        Calendar::NoLeap => return date_by_rule(true, Rule::Common, n),
+        Calendar::AllLeap => return date_by_rule(true, Rule::Leap, n),
+        Calendar::Day360 => return date_by_rule(true, Rule::Thirty, n),
+    }
+}

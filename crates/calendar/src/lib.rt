@@ -1,0 +1,169 @@
+// The six calendars: the date of a day number and the day number of a date, counted from 1970-01-01, proved against each
+// calendar's next-day rule (specs/Calendar.antt). Both calls are total.
+ghost use mathlib.Core.Path.{_≡_};
+ghost use Prim.Native.Nat.{_-_, _≤_};
+ghost use Rattle.signed.specs.Bias.{lower};
+ghost use Rattle.calendar.specs.Answers.{dateAnswer, dayAnswer};
+ghost use Rattle.calendar.specs.Calendar.{hasYearZero};
+ghost use Rattle.calendar.specs.Closed.{base, first, end, Counted};
+use refusal::Refusal;
+
+mod civil;
+mod month;
+mod ordinal;
+mod place;
+mod rule;
+
+pub enum Calendar {
+    Standard,
+    ProlepticGregorian,
+    Julian,
+    NoLeap,
+    AllLeap,
+    Day360,
+}
+
+// A date as it is written: month and day count from 1.
+pub struct Date {
+    pub year: i64,
+    pub month: u32,
+    pub day: u32,
+}
+
+// The date of a day number.
+pub enum DateAnswer {
+    Is(Date),
+    Refused(Refusal),
+}
+
+// The day number of a date.
+pub enum DayAnswer {
+    Is(i64),
+    Refused(Refusal),
+}
+
+// 2^63 less the days from place 0 0 0 to 1970-01-01.
+fn origin(c: Calendar) -> u64
+    ensures { λ r. ⌜ r ≡ 9223372036854775808 - base c ⌝ }
+{
+    match c {
+        Calendar::Standard => return 0x8000_0000_0000_0000 - 4372030,
+        Calendar::ProlepticGregorian => return 0x8000_0000_0000_0000 - 4371953,
+        Calendar::Julian => return 0x8000_0000_0000_0000 - 4372043,
+        Calendar::NoLeap => return 0x8000_0000_0000_0000 - 4369050,
+        Calendar::AllLeap => return 0x8000_0000_0000_0000 - 4381020,
+        Calendar::Day360 => return 0x8000_0000_0000_0000 - 4309200,
+    }
+}
+
+// The first day of year -9999.
+fn first_day(c: Calendar) -> u64
+    ensures { λ r. ⌜ r ≡ first c ⌝ }
+{
+    match c {
+        Calendar::Standard => return 731,
+        Calendar::ProlepticGregorian => return 366,
+        Calendar::Julian => return 366,
+        Calendar::NoLeap => return 365,
+        Calendar::AllLeap => return 366,
+        Calendar::Day360 => return 360,
+    }
+}
+
+// The first day of year 10000.
+fn end_day(c: Calendar) -> u64
+    ensures { λ r. ⌜ r ≡ end c ⌝ }
+{
+    match c {
+        Calendar::Standard => return 7304927,
+        Calendar::ProlepticGregorian => return 7304850,
+        Calendar::Julian => return 7305000,
+        Calendar::NoLeap => return 7300000,
+        Calendar::AllLeap => return 7320000,
+        Calendar::Day360 => return 7200000,
+    }
+}
+
+// The date of the day number k - 2^63; OutOfRange where its year lies past -9999 to 9999.
+pub fn date_of_biased_day(c: Calendar, k: u64) -> DateAnswer
+    ensures { λ r. ⌜ r ≡ dateAnswer c (lower k) ⌝ }
+{
+    let o = origin(c);
+    if k < o {
+        return DateAnswer::Refused(Refusal::OutOfRange);
+    }
+    let n = k - o;
+    if n < first_day(c) {
+        return DateAnswer::Refused(Refusal::OutOfRange);
+    }
+    if end_day(c) <= n {
+        return DateAnswer::Refused(Refusal::OutOfRange);
+    }
+    return DateAnswer::Is(civil::date_at(c, n));
+}
+
+// The date of a day number, counted from 1970-01-01; OutOfRange where its year lies past -9999 to 9999.
+pub fn date_of_day(c: Calendar, n: i64) -> DateAnswer
+    ensures { λ r. ⌜ r ≡ dateAnswer c n ⌝ }
+{
+    date_of_biased_day(c, signed::biased(n))
+}
+
+fn has_year_zero(c: Calendar) -> bool
+    ensures { λ r. ⌜ r ≡ hasYearZero c ⌝ }
+{
+    match c {
+        Calendar::Standard => return false,
+        Calendar::ProlepticGregorian => return true,
+        Calendar::Julian => return true,
+        Calendar::NoLeap => return true,
+        Calendar::AllLeap => return true,
+        Calendar::Day360 => return true,
+    }
+}
+
+// A year as a count from -10000, or that the calendar has no such year.
+enum YearCount {
+    Is(u64),
+    Missing,
+}
+
+// The count of the year k - 2^63, with or without a year 0.
+fn year_count(zero: bool, k: u64) -> YearCount
+    requires { ⌜ (9223372036854765809 ≤ k) × (k ≤ 9223372036854785807) ⌝ }
+    ensures { λ r. ⌜ Counted zero (lower k) r ⌝ }
+{
+    if zero {
+        return YearCount::Is(k - (0x8000_0000_0000_0000 - 10000));
+    }
+    if k < 0x8000_0000_0000_0000 {
+        return YearCount::Is(k - (0x8000_0000_0000_0000 - 10001));
+    }
+    if k == 0x8000_0000_0000_0000 {
+        return YearCount::Missing;
+    }
+    return YearCount::Is(k - (0x8000_0000_0000_0000 - 10000));
+}
+
+// The day number of a date, counted from 1970-01-01; OutOfRange where its year lies past -9999 to 9999, then NoSuchDate where the
+// calendar does not have it.
+pub fn day_of_date(c: Calendar, x: Date) -> DayAnswer
+    ensures { λ r. ⌜ r ≡ dayAnswer c x ⌝ }
+{
+    let k = signed::biased(x.year);
+    if k < 0x8000_0000_0000_0000 - 9999 {
+        return DayAnswer::Refused(Refusal::OutOfRange);
+    }
+    if 0x8000_0000_0000_0000 + 9999 < k {
+        return DayAnswer::Refused(Refusal::OutOfRange);
+    }
+    match year_count(has_year_zero(c), k) {
+        YearCount::Missing => return DayAnswer::Refused(Refusal::NoSuchDate),
+        YearCount::Is(y) => {
+            if ordinal::exists_in_year(c, y, x.month, x.day) {
+                return DayAnswer::Is(ordinal::day_in_year(c, y, x.month, x.day));
+            }
+            return DayAnswer::Refused(Refusal::NoSuchDate);
+        }
+    }
+}
