@@ -45,7 +45,7 @@ fn main() {
         println!("cargo:rustc-cfg=exported={call:?}");
     }
     println!("cargo:rustc-env=UPPINALO_CALLS={}", calls.join(" "));
-    if !is_stub && !calls.is_empty() {
+    if !is_stub && calls.iter().any(|call| call != "listing") {
         let here = env::var("CARGO_MANIFEST_DIR").unwrap();
         link(&Path::new(&here).join("../..").canonicalize().unwrap());
     }

@@ -6,8 +6,10 @@ use std::io::Write;
 use std::path::{Path, PathBuf};
 use std::process::{Command, Stdio};
 
+/// target/bin/listing, or what UPPINALO_LISTING names.
 fn program() -> PathBuf {
-    Path::new(env!("CARGO_MANIFEST_DIR")).join("../../target/bin/listing")
+    let built = || Path::new(env!("CARGO_MANIFEST_DIR")).join("../../target/bin/listing");
+    std::env::var_os("UPPINALO_LISTING").map_or_else(built, PathBuf::from)
 }
 
 /// What the program prints for an input.

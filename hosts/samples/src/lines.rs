@@ -4,7 +4,16 @@ use crate::Random;
 use crate::damage::damaged;
 use crate::texts::{calendar_name, units};
 
-const EDGES: [&str; 5] = ["9223372036854775807", "-9223372036854775808", "9223372036854775808", "-0", "007"];
+const EDGES: [&str; 8] = [
+    "9223372036854775807",
+    "-9223372036854775808",
+    "9223372036854775808",
+    "-0",
+    "007",
+    "x7ff0000000000000",
+    "xfff8000000000001",
+    "x43e0000000000000",
+];
 
 fn offset(random: &mut Random) -> String {
     let shift = random.below(64);
