@@ -59,7 +59,7 @@ typedef struct { uint32_t number; size_t place, length, rounded; } uppinalo_run_
 uppinalo_axis_answer uppinalo_read_units(const uint8_t *calendar, size_t calendar_len, const uint8_t *text, size_t text_len);
 uppinalo_reading uppinalo_read_iso(const uint8_t *calendar, size_t calendar_len, const uint8_t *text, size_t text_len);
 
-/* Instants: 27 bytes of ISO text, 28 in negative years; the room beyond keeps its bytes. */
+/* Instants: their ISO text has 27 bytes, or 28 in negative years; bytes of the room after it stay. */
 uppinalo_length_answer uppinalo_write_iso(uint32_t calendar, int64_t instant, uint8_t *room, size_t room_len);
 uppinalo_fields_answer uppinalo_fields_of(uint32_t calendar, int64_t instant);
 

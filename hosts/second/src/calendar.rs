@@ -32,7 +32,7 @@ impl Date {
     }
 }
 
-/// The calendar of a name, in exact case. The empty name is `standard`.
+/// The calendar that a name stands for; upper and lower case differ.
 pub fn calendar_named(name: &[u8]) -> Option<Calendar> {
     match name {
         b"" | b"standard" | b"gregorian" => Some(Calendar::Standard),

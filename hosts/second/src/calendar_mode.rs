@@ -21,7 +21,7 @@ pub fn moved_by_years(axis: Axis, years: i64) -> Result<i128, Refusal> {
     placed(axis, fields, year, fields.date.month)
 }
 
-/// The fields in another month. Where it lacks the day, the day of the month goes down until there is one.
+/// The fields in another month, on the last day there that is not after their own.
 fn placed(axis: Axis, fields: Fields, year: i64, month: u32) -> Result<i128, Refusal> {
     let mut date = Date::new(year, month, fields.date.day);
     while day_of_date(axis.calendar, date).is_none() {

@@ -134,7 +134,7 @@ impl WrittenDate {
         if self.is_negative { -(self.year as i64) } else { self.year as i64 }
     }
 
-    /// The local date and time, and the zone. An absent month or day is 1, an absent time 0.
+    /// The local date and time, and the zone. Month and day default to 1, the time to midnight.
     fn fields(&self) -> (Fields, Zone) {
         let month = self.month.clone().unwrap_or(WrittenMonth { month: 1, day: None });
         let day = month.day.unwrap_or(WrittenDay { day: 1, time: None });
@@ -144,7 +144,7 @@ impl WrittenDate {
         (Fields { date, hour, minute, second, microsecond }, zone)
     }
 
-    /// The instant that the date names: the local time, which must exist, less the zone.
+    /// The instant that the date names. The local time must exist; the zone is taken off afterwards.
     pub fn instant(&self, calendar: Calendar) -> Result<i64, Refusal> {
         let (local, zone) = self.fields();
         let count = count_of_fields(calendar, local)?;

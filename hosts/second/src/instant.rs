@@ -27,7 +27,7 @@ fn day_of_count(count: i128) -> i128 {
     day
 }
 
-/// The count as an instant, where the date of its day lies in the years -9999 to 9999.
+/// The count as an instant, if its day is one of the calendar's listed days.
 pub fn instant_of_count(calendar: Calendar, count: i128) -> Result<i64, Refusal> {
     match date_of_day(calendar, day_of_count(count)) {
         Some(_) => i64::try_from(count).map_err(|_| Refusal::OutOfRange),

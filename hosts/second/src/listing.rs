@@ -12,7 +12,7 @@ enum Offset {
     Double(f64),
 }
 
-/// An optional minus and 1 to 19 digits, within 64 bits.
+/// Decimal digits, at most 19 of them, with or without a minus sign, whose number is an i64.
 fn whole(text: &[u8]) -> Option<i64> {
     let digits = text.strip_prefix(b"-").unwrap_or(text);
     if digits.is_empty() || digits.len() > 19 || !digits.iter().all(u8::is_ascii_digit) {
@@ -21,7 +21,7 @@ fn whole(text: &[u8]) -> Option<i64> {
     std::str::from_utf8(text).ok()?.parse().ok()
 }
 
-/// `x` and the bits of a double as 16 lower-case hexadecimal digits.
+/// A double by its bits, in hexadecimal after an `x`.
 fn double(text: &[u8]) -> Option<f64> {
     let digits = text.strip_prefix(b"x")?;
     if digits.len() != 16 || !digits.iter().all(|digit| matches!(digit, b'0'..=b'9' | b'a'..=b'f')) {

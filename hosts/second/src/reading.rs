@@ -13,7 +13,7 @@ pub struct Reading {
     pub exact: bool,
 }
 
-/// An axis whose reference lies past the range is refused before all else.
+/// Every call on an axis asks first that its reference is in range.
 pub fn tested(axis: Axis) -> Result<(), Refusal> {
     fields_of(axis.calendar, axis.reference).map(|_| ())
 }

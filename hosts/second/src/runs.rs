@@ -1,4 +1,4 @@
-//! A lent run of offsets read at once, all or nothing (document 01, "Numbers returned", on runs).
+//! Runs of offsets, read whole or not at all (document 01, "Numbers returned", on runs).
 
 use crate::axis::Axis;
 use crate::reading::{Reading, read_double, read_whole, tested};

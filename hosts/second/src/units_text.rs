@@ -33,7 +33,7 @@ pub struct WrittenUnits {
     date: WrittenDate,
 }
 
-/// A period word, and the same with one more `s`, but for `ss`.
+/// A period word or its plural; `s` has no plural.
 fn period(text: &[u8]) -> Ways<'_, Period> {
     let one = |&(name, period): &(&[u8], Period)| {
         let singular = word(text, name);
