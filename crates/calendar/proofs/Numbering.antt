@@ -8,11 +8,10 @@ use lib.Dec.{eqb}
 use lib.IntN.{ℤ, sucℤ, subℕ}
 use borrow.Author.Tests.{eqb-true, eq-eqb}
 use Rattle.signed.proofs.Tests.{and-parts, both, to-false}
-use Rattle.signed.proofs.Differences.{sub-suc, same-diff, sub-inj}
+use Rattle.signed.proofs.Differences.{sub-suc, sub-inj}
 use Rattle.calendar.specs.Calendar.{dateOf, inYears}
 use Rattle.calendar.specs.Order.{sameYear, sameDate}
 use Rattle.calendar.specs.Answers.{numberFrom, dayNumber}
-use Rattle.calendar.specs.Closed.{base}
 use Rattle.calendar.specs.declared.Calendar.{Calendar}
 use Rattle.calendar.specs.declared.Date.{Date}
 use Rattle.calendar.proofs.Existing.{date-eq}

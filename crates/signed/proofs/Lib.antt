@@ -1,4 +1,5 @@
 pub mod Tests
 pub mod Order
 pub mod Differences
+pub mod Integers
 pub mod Machine

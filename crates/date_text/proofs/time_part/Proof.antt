@@ -1,0 +1,130 @@
+-- `date_text::time_part` meets its contract: each `return` is a step of the reader.
+use borrow.Author.Needs.{needs}
+use native.Mathlib.Omega.{arith}
+use Prim.Native.Nat.{_<_}
+use mathlib.Core.Path.{_≡_, sym, ap, _∙_}
+use mathlib.Core.Bool.{true}
+use mathlib.Core.List.{[], _∷_}
+use lib.ListN.{length, drop}
+use Rattle.grammar.specs.Answers.{numberIn}
+use Rattle.grammar.specs.Grammar.{starts}
+use Rattle.grammar.specs.Reader.{found}
+use Rattle.grammar.specs.Rules.{anyOf}
+use Rattle.grammar.proofs.Places.{starts-lt}
+use Rattle.date_text.specs.Answers.{zoneIn, minuteIn}
+use Rattle.date_text.specs.declared.Time.{Time}
+use Rattle.date_text.proofs.Steps.{time-none, time-no, time-half, time-is}
+use Rattle.date_text.proofs.time_part.Statement.{statement}
+use Rattle.date_text.proofs.time_part.Tie as tie
+
+-- T or a space stands at the place
+yes : (c : tie.Then1) → starts (anyOf (84 ∷ 32 ∷ [])) (drop (c .before .before .before .before .args .at) (c .before .before .before .before .args .s .now)) ≡ true
+yes c = sym (c .before .starts-in .ensures) ∙ c .if1 .taken
+
+inText : (c : tie.Then1) → c .before .before .before .before .args .at < length (c .before .before .before .before .args .s .now)
+inText c = let a = c .before .before .before .before .args in starts-lt _ (a .s .now) (a .at) (yes c)
+
+slice-aggregate-starts-in : tie.Need-slice-aggregate-starts-in
+slice-aggregate-starts-in c = search needs
+
+starts-in-requires : tie.Need-starts-in-requires
+starts-in-requires c κs = search needs
+
+add-number-at : tie.Need-add-number-at
+add-number-at c = let h = inText c in omega arith
+
+number-at-requires : tie.Need-number-at-requires
+number-at-requires c κs = search needs
+
+enum-known-hour : tie.Need-enum-known-hour
+enum-known-hour c = search needs
+
+enum-told : tie.Need-enum-told
+enum-told c = search needs
+
+returns : tie.Need-returns
+returns c =
+    let n = c .before .before in
+    let t = n .before in
+    let a = t .before .before .before .before .args in
+    time-no (a .s .now) (a .at) (yes t) (n .number-at .ensures ∙ ap (numberIn _) (c .enum-told .given .1))
+
+minute-part-requires : tie.Need-minute-part-requires
+minute-part-requires c κs = search needs
+
+enum-known-minute : tie.Need-enum-known-minute
+enum-known-minute c = search needs
+
+enum-told-2 : tie.Need-enum-told-2
+enum-told-2 c = search needs
+
+returns-2 : tie.Need-returns-2
+returns-2 c =
+    let m = c .before .before in
+    let h = m .before .before in
+    let n = h .before .before in
+    let t = n .before in
+    let a = t .before .before .before .before .args in
+    time-half (a .s .now) (a .at) (yes t) _ _ (n .number-at .ensures ∙ ap (numberIn _) (h .hour .given .1)) (m .minute-part .ensures ∙ ap (minuteIn _) (c .enum-told2 .given .1))
+
+zone-part-requires : tie.Need-zone-part-requires
+zone-part-requires c κs = search needs
+
+enum-known-zone : tie.Need-enum-known-zone
+enum-known-zone c = search needs
+
+enum-told-3 : tie.Need-enum-told-3
+enum-told-3 c = search needs
+
+returns-3 : tie.Need-returns-3
+returns-3 c =
+    let z = c .before .before in
+    let k = z .before .before in
+    let m = k .before .before in
+    let h = m .before .before in
+    let n = h .before .before in
+    let t = n .before in
+    let a = t .before .before .before .before .args in
+    time-is (a .s .now) (a .at) (yes t) _ _ _ _ _ (n .number-at .ensures ∙ ap (numberIn _) (h .hour .given .1)) (m .minute-part .ensures ∙ ap (minuteIn _) (k .minute .given .1)) (z .zone-part .ensures ∙ ap (zoneIn _) (c .enum-told3 .given .1))
+
+returns-4 : tie.Need-returns-4
+returns-4 c =
+    let z = c .before .before .before in
+    let k = z .before .before in
+    let m = k .before .before in
+    let h = m .before .before in
+    let n = h .before .before in
+    let t = n .before in
+    let a = t .before .before .before .before .args in
+    time-is (a .s .now) (a .at) (yes t) _ _ _ _ _ (n .number-at .ensures ∙ ap (numberIn _) (h .hour .given .1)) (m .minute-part .ensures ∙ ap (minuteIn _) (k .minute .given .1)) (z .zone-part .ensures ∙ ap (zoneIn _) (c .before .zone .given .1))
+
+midnight-utc-requires : tie.Need-midnight-utc-requires
+midnight-utc-requires c κs = search needs
+
+returns-5 : tie.Need-returns-5
+returns-5 c =
+    let a = c .before .before .before .before .before .args in
+    time-none (drop (a .at) (a .s .now)) (sym (c .before .before .starts-in .ensures) ∙ c .before .if1 .left) ∙ ap (λ (t : Time). found t (drop (a .at) (a .s .now))) (sym (c .midnight-utc .ensures))
+
+pub time-part-spec : {M : Type 1} → statement M
+time-part-spec =
+    tie.close
+    (tie.spec
+    slice-aggregate-starts-in
+    starts-in-requires
+    add-number-at
+    number-at-requires
+    enum-known-hour
+    enum-told
+    returns
+    minute-part-requires
+    enum-known-minute
+    enum-told-2
+    returns-2
+    zone-part-requires
+    enum-known-zone
+    enum-told-3
+    returns-3
+    returns-4
+    midnight-utc-requires
+    returns-5)

@@ -1,0 +1,2 @@
+pub mod DateRule
+pub mod Answers

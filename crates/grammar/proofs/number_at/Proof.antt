@@ -1,0 +1,67 @@
+-- `grammar::number_at` meets its contract: the run of digits is what the reader takes, and its length decides.
+use borrow.Author.Needs.{needs}
+use native.Mathlib.Omega.{arith}
+use Prim.Native.Nat.{_+_}
+use mathlib.Core.Path.{_≡_, sym, ap, ap₂, _∙_}
+use lib.ListN.{length, drop}
+use Rattle.grammar.specs.Reader.{front, found}
+use Rattle.grammar.specs.Rules.{digit, decimal}
+use Rattle.grammar.proofs.Classes.{front-every}
+use Rattle.grammar.proofs.Places.{run-end, run-part, run-left}
+use Rattle.grammar.proofs.Steps.{run-empty, number-long, number-is}
+use Rattle.grammar.proofs.number_at.Statement.{statement}
+use Rattle.grammar.proofs.number_at.Tie as tie
+
+run-end-requires : tie.Need-run-end-requires
+run-end-requires c κs = search needs
+
+returns : tie.Need-returns
+returns c =
+    let e = c .before .run-end .ensures in
+    run-empty _ _ _ _ (omega arith)
+
+sub-d : tie.Need-sub-d
+sub-d c = search needs
+
+part-d-start : tie.Need-part-d-start
+part-d-start c = search needs
+
+part-d-end : tie.Need-part-d-end
+part-d-end c = let a = c .before .before .before .args in run-end digit (a .s .now) (a .at) (c .before .run-end .result) (c .before .run-end .ensures) (c .if1 .left)
+
+returns-2 : tie.Need-returns-2
+returns-2 c =
+    let a = c .before .before .before .before .before .args in
+    let p = run-part digit (a .s .now) (a .at) (c .before .before .before .run-end .result) (c .before .before .before .run-end .ensures) in
+    let l = ap length p in
+    number-long (a .hi) (drop (a .at) (a .s .now)) (omega arith)
+
+decimal-of-requires : tie.Need-decimal-of-requires
+decimal-of-requires c κs =
+    let a = c .before .before .before .before .before .args in
+    let p = run-part digit (a .s .now) (a .at) (c .before .before .before .run-end .result) (c .before .before .before .run-end .ensures) in
+    (omega arith, rw p (front-every digit (drop (a .at) (a .s .now))))
+
+returns-3 : tie.Need-returns-3
+returns-3 c =
+    let a = c .before .before .before .before .before .before .args in
+    let e = c .before .before .before .before .run-end .result in
+    let x = drop (a .at) (a .s .now) in
+    let q : e ≡ a .at + length (front digit x) = c .before .before .before .before .run-end .ensures in
+    let p = run-part digit (a .s .now) (a .at) e q in
+    let l = ap length p in
+    number-is (a .hi) x (omega arith) (omega arith)
+    ∙ ap₂ found (sym (c .decimal-of .ensures .0 ∙ ap (decimal 0) p)) (sym (run-left digit (a .s .now) (a .at) e q))
+
+pub number-at-spec : {M : Type 1} → statement M
+number-at-spec =
+    tie.close
+    (tie.spec
+    run-end-requires
+    returns
+    sub-d
+    part-d-start
+    part-d-end
+    returns-2
+    decimal-of-requires
+    returns-3)

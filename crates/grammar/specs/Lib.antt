@@ -1,0 +1,5 @@
+pub mod Grammar
+pub mod Reader
+pub mod Clear
+pub mod Rules
+pub mod Answers

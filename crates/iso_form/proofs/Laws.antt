@@ -1,0 +1,62 @@
+-- The text as a part of 28 bytes, and what a copy of that part leaves in the room.
+use Prim.Native.Nat.{ℕ, _-_, _≤_, _<_}
+use native.Mathlib.Omega.{arith}
+use mathlib.Core.Path.{_≡_, refl, sym, ap₂, _∙_}
+use mathlib.Core.Bool.{Bool, true, false, cond}
+use mathlib.Core.List.{List, _∷_, _++_}
+use lib.ListN.{length, take, drop}
+use lib.Seq.{take-length}
+use borrow.Author.Tests.{le-leb, lt-leb}
+use Rattle.refusal.specs.declared.Refusal.{Refusal}
+use Rattle.date_text.specs.declared.Written.{Written}
+use Rattle.iso_form.specs.declared.LengthAnswer.{LengthAnswer}
+use Rattle.iso_form.specs.Form.{body, isoText, lengthAnswer, over}
+use Rattle.iso_form.specs.Closed.{lead}
+
+pub lead-small : (b : Bool) → lead b ≤ 1
+lead-small true = omega arith
+lead-small false = omega arith
+
+-- ---- the text
+
+pub iso-length : (w : Written) → length (isoText w) ≡ 28 - lead (w .negative)
+unfolding isoText
+iso-length w = go (w .negative)
+  where
+    go : (b : Bool) → length (cond b (45 ∷ body w) (body w)) ≡ 28 - lead b
+    go true = refl
+    go false = refl
+
+iso-part : (w : Written) → take (28 - lead (w .negative)) (drop (lead (w .negative)) (45 ∷ body w)) ≡ isoText w
+unfolding isoText
+iso-part w = go (w .negative)
+  where
+    go : (b : Bool) → take (28 - lead b) (drop (lead b) (45 ∷ body w)) ≡ cond b (45 ∷ body w) (body w)
+    go true = refl
+    go false = refl
+
+-- ---- a text and the room for it
+
+module _ (text room : List ℕ) (h : length room < length text) where
+  pub short-answer : lengthAnswer text room ≡ LengthAnswer.Refused Refusal.NoRoom
+  unfolding lengthAnswer
+  short-answer = rw (lt-leb (length text) (length room) h)
+
+  pub short-over : over text room ≡ room
+  unfolding over
+  short-over = rw (lt-leb (length text) (length room) h)
+
+module _ (text room : List ℕ) (h : length text ≤ length room) where
+  pub whole-answer : lengthAnswer text room ≡ LengthAnswer.Is (length text)
+  unfolding lengthAnswer
+  whole-answer = rw (le-leb (length text) (length room) h)
+
+  pub whole-over : over text room ≡ text ++ drop (length text) room
+  unfolding over
+  whole-over = rw (le-leb (length text) (length room) h)
+
+-- what a copy of the part to the front of the room leaves
+pub copied : (w : Written) (t room : List ℕ) (a n : ℕ) → a ≡ lead (w .negative) → t ≡ 45 ∷ body w → length (isoText w) ≤ length room → n ≡ length (take (28 - a) (drop a t)) → take n (take (28 - a) (drop a t)) ++ drop n room ≡ over (isoText w) room
+copied w t room a n p q h e =
+    let s : take (28 - a) (drop a t) ≡ isoText w = rw (p, q) (iso-part w) in
+    rw (e, s) (ap₂ _++_ (take-length (isoText w)) refl ∙ sym (whole-over (isoText w) room h))

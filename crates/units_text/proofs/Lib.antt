@@ -1,0 +1,4 @@
+pub mod Texts
+pub mod Packed
+pub mod Words
+pub mod Steps

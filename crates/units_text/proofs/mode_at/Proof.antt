@@ -1,0 +1,81 @@
+-- `units_text::mode_at` meets its contract: each `return` is a step of the reader.
+use borrow.Author.Needs.{needs}
+use mathlib.Core.Path.{_≡_, refl, sym, ap, _∙_}
+use mathlib.Core.Bool.{true}
+use lib.ListN.{drop}
+use Rattle.grammar.specs.Answers.{endIn}
+use Rattle.grammar.specs.Grammar.{inside, within, every, starts}
+use Rattle.grammar.specs.Rules.{either}
+use Rattle.units_text.proofs.Steps.{mode-none, mode-no, mode-is}
+use Rattle.units_text.proofs.mode_at.Statement.{statement}
+use Rattle.units_text.proofs.mode_at.Tie as tie
+
+yes : (c : tie.Then1) → starts (either 67) (drop (c .before .before .before .args .at) (c .before .before .before .args .s .now)) ≡ true
+yes c = sym (c .before .letter-at .ensures) ∙ c .if1 .taken
+
+letter-at-requires : tie.Need-letter-at-requires
+letter-at-requires c κs = search needs
+
+slice-aggregate-word-at : tie.Need-slice-aggregate-word-at
+slice-aggregate-word-at c = search needs
+
+word-at-requires : tie.Need-word-at-requires
+unfolding every within inside
+word-at-requires c κs = refl
+
+enum-known-b : tie.Need-enum-known-b
+enum-known-b c = search needs
+
+enum-told : tie.Need-enum-told
+enum-told c = search needs
+
+returns : tie.Need-returns
+returns c =
+    let w = c .before .before in
+    let t = w .before .before in
+    mode-no _ (yes t) (w .word-at .ensures ∙ ap (endIn _) (c .enum-told .given .1))
+
+spaces-at-requires : tie.Need-spaces-at-requires
+spaces-at-requires c κs = search needs
+
+enum-known-e : tie.Need-enum-known-e
+enum-known-e c = search needs
+
+enum-told-2 : tie.Need-enum-told-2
+enum-told-2 c = search needs
+
+returns-2 : tie.Need-returns-2
+returns-2 c =
+    let g = c .before .before in
+    let b = g .before .before in
+    let w = b .before .before in
+    let t = w .before .before in
+    mode-is _ (yes t) _ _ (w .word-at .ensures ∙ ap (endIn _) (b .b .given .1)) (g .spaces-at .ensures ∙ ap (endIn _) (c .enum-told2 .given .1))
+
+returns-3 : tie.Need-returns-3
+returns-3 c =
+    let g = c .before .before .before in
+    let b = g .before .before in
+    let w = b .before .before in
+    let t = w .before .before in
+    mode-is _ (yes t) _ _ (w .word-at .ensures ∙ ap (endIn _) (b .b .given .1)) (g .spaces-at .ensures ∙ ap (endIn _) (c .before .e .given .1))
+
+returns-4 : tie.Need-returns-4
+returns-4 c = let a = c .before .before .before .args in mode-none (drop (a .at) (a .s .now)) (sym (c .before .letter-at .ensures) ∙ c .if1 .left)
+
+pub mode-at-spec : {M : Type 1} → statement M
+mode-at-spec =
+    tie.close
+    (tie.spec
+    letter-at-requires
+    slice-aggregate-word-at
+    word-at-requires
+    enum-known-b
+    enum-told
+    returns
+    spaces-at-requires
+    enum-known-e
+    enum-told-2
+    returns-2
+    returns-3
+    returns-4)

@@ -1,0 +1,94 @@
+-- `units_text::period_at` meets its contract: the run of letters is what the reader takes.
+use borrow.Author.Needs.{needs}
+use native.Mathlib.Omega.{arith}
+use mathlib.Core.Path.{sym, ap, _∙_}
+use lib.ListN.{drop}
+use Rattle.grammar.specs.Grammar.{starts}
+use Rattle.grammar.specs.Reader.{found}
+use Rattle.grammar.specs.Rules.{bytes, span, anyOf}
+use Rattle.grammar.proofs.Classes.{front-every}
+use Rattle.grammar.proofs.Places.{run-end, run-part, run-left}
+use Rattle.grammar.proofs.Steps.{run-empty, run-no, run-is}
+use Rattle.units_text.specs.Answers.{meaningOf}
+use Rattle.units_text.specs.UnitsRule.{periodWords, lookup}
+use Rattle.units_text.proofs.period_at.Statement.{statement}
+use Rattle.units_text.proofs.period_at.Tie as tie
+
+run-end-requires : tie.Need-run-end-requires
+run-end-requires c κs = search needs
+
+returns : tie.Need-returns
+returns c = let a = c .before .before .before .args in run-empty _ _ _ (drop (a .at) (a .s .now)) (omega arith)
+
+sub-d : tie.Need-sub-d
+sub-d c = search needs
+
+part-d-start : tie.Need-part-d-start
+part-d-start c = search needs
+
+part-d-end : tie.Need-part-d-end
+part-d-end c = let a = c .before .before .before .args in run-end (span 97 122) (a .s .now) (a .at) (c .before .run-end .result) (c .before .run-end .ensures) (c .if1 .left)
+
+slice-aggregate-starts-in : tie.Need-slice-aggregate-starts-in
+slice-aggregate-starts-in c = search needs
+
+starts-in-requires : tie.Need-starts-in-requires
+starts-in-requires c κs = search needs
+
+period-of-requires : tie.Need-period-of-requires
+period-of-requires c κs =
+    let r = c .before .before .before .before .before in
+    let a = r .before .before .args in
+    rw (run-part (span 97 122) (a .s .now) (a .at) (r .run-end .result) (r .run-end .ensures)) (front-every (span 97 122) (drop (a .at) (a .s .now)))
+
+enum-known-p : tie.Need-enum-known-p
+enum-known-p c = search needs
+
+enum-told : tie.Need-enum-told
+enum-told c = search needs
+
+returns-2 : tie.Need-returns-2
+returns-2 c =
+    let d = c .before .before in
+    let t = d .before in
+    let r = t .before .before .before .before .before in
+    let a = r .before .before .args in
+    let p = run-part (span 97 122) (a .s .now) (a .at) (r .run-end .result) (r .run-end .ensures) in
+    run-is _ _ _ (drop (a .at) (a .s .now)) _ (ap (starts (anyOf (bytes "dhmswy"))) (sym p) ∙ sym (t .before .starts-in .ensures) ∙ t .if2 .taken)
+    (ap (lookup periodWords) (sym p) ∙ d .period-of .ensures ∙ ap meaningOf (c .enum-told .given .1))
+
+returns-3 : tie.Need-returns-3
+returns-3 c =
+    let d = c .before .before .before in
+    let t = d .before in
+    let r = t .before .before .before .before .before in
+    let a = r .before .before .args in
+    let p = run-part (span 97 122) (a .s .now) (a .at) (r .run-end .result) (r .run-end .ensures) in
+    run-is _ _ _ (drop (a .at) (a .s .now)) _ (ap (starts (anyOf (bytes "dhmswy"))) (sym p) ∙ sym (t .before .starts-in .ensures) ∙ t .if2 .taken)
+    (ap (lookup periodWords) (sym p) ∙ d .period-of .ensures ∙ ap meaningOf (c .before .p .given .1))
+    ∙ ap (found (c .before .p .given .0 .0)) (sym (run-left (span 97 122) (a .s .now) (a .at) (r .run-end .result) (r .run-end .ensures)))
+
+returns-4 : tie.Need-returns-4
+returns-4 c =
+    let r = c .before .before .before .before .before in
+    let a = r .before .before .args in
+    let p = run-part (span 97 122) (a .s .now) (a .at) (r .run-end .result) (r .run-end .ensures) in
+    run-no _ _ _ (drop (a .at) (a .s .now)) (ap (starts (anyOf (bytes "dhmswy"))) (sym p) ∙ sym (c .before .starts-in .ensures) ∙ c .if2 .left)
+
+pub period-at-spec : {M : Type 1} → statement M
+period-at-spec =
+    tie.close
+    (tie.spec
+    run-end-requires
+    returns
+    sub-d
+    part-d-start
+    part-d-end
+    slice-aggregate-starts-in
+    starts-in-requires
+    period-of-requires
+    enum-known-p
+    enum-told
+    returns-2
+    returns-3
+    returns-4)

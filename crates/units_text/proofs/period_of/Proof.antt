@@ -1,0 +1,104 @@
+-- `units_text::period_of` meets its contract. The word's number is looked up in the table: the keys of an arm all stand for the arm's
+-- period, and a number that is no key of any arm is in no row. The table has one word of more than eight letters.
+use borrow.Author.Needs.{needs}
+use native.Mathlib.Omega.{arith}
+use Prim.Native.Nat.{ℕ, _<_}
+use mathlib.Core.Path.{_≡_, sym, _∙_, refl, ap}
+use mathlib.Core.List.{[], _∷_}
+use mathlib.Core.Logic.{inl, inr}
+use types.Run.{OneOf}
+use types.Run.{OneOf}
+use Rattle.grammar.specs.Rules.{bytes}
+use Rattle.period.specs.declared.Period.{Period}
+use Rattle.units_text.specs.UnitsRule.{periodWords, lookup}
+use Rattle.units_text.proofs.Packed.{wider}
+use Rattle.units_text.proofs.Words.{numbers, lookupPacked, period-packed, each-key, no-key, period-long}
+use Rattle.units_text.proofs.period_of.Statement.{statement}
+use Rattle.units_text.proofs.period_of.Tie as tie
+
+slice-aggregate-same-bytes : tie.Need-slice-aggregate-same-bytes
+slice-aggregate-same-bytes c = search needs
+
+same-bytes-requires : tie.Need-same-bytes-requires
+same-bytes-requires c κs = search needs
+
+returns : tie.Need-returns
+returns c = period-long (c .before .before .before .before .before .args .d .now) _ (c .before .before .before .if1 .taken) (sym (c .before .same-bytes .ensures) ∙ c .if2 .taken)
+
+returns-2 : tie.Need-returns-2
+returns-2 c = period-long (c .before .before .before .before .before .args .d .now) _ (c .before .before .before .if1 .taken) (sym (c .before .same-bytes .ensures) ∙ c .if2 .left)
+
+packed-of-requires : tie.Need-packed-of-requires
+packed-of-requires c κs = (omega arith, wider 97 122 1 255 _ (omega arith) (omega arith) (c .before .before .pre))
+
+-- the table gives the word what it gives the word's number
+number : (c : tie.After-packed-of) → lookup periodWords (c .before .before .before .args .d .now) ≡ lookupPacked periodWords (c .packed-of .result)
+number c =
+    period-packed _ (wider 97 122 1 255 _ (omega arith) (omega arith) (c .before .before .before .pre))
+    ∙ ap (lookupPacked periodWords) (sym (c .packed-of .ensures))
+
+returns-3 : tie.Need-returns-3
+returns-3 c = number (c .before) ∙ each-key (numbers (bytes "msec" ∷ bytes "msecs" ∷ bytes "millisec" ∷ [])) Period.Millisecond _ (refl, (refl, (refl, tt))) (c .match .keys1)
+
+returns-4 : tie.Need-returns-4
+returns-4 c = number (c .before) ∙ each-key (numbers (bytes "s" ∷ bytes "sec" ∷ bytes "secs" ∷ bytes "second" ∷ bytes "seconds" ∷ [])) Period.Second _ (refl, (refl, (refl, (refl, (refl, tt))))) (c .match .keys2)
+
+returns-5 : tie.Need-returns-5
+returns-5 c = number (c .before) ∙ each-key (numbers (bytes "min" ∷ bytes "mins" ∷ bytes "minute" ∷ bytes "minutes" ∷ [])) Period.Minute _ (refl, (refl, (refl, (refl, tt)))) (c .match .keys3)
+
+returns-6 : tie.Need-returns-6
+returns-6 c = number (c .before) ∙ each-key (numbers (bytes "hr" ∷ bytes "hrs" ∷ bytes "hour" ∷ bytes "hours" ∷ [])) Period.Hour _ (refl, (refl, (refl, (refl, tt)))) (c .match .keys4)
+
+returns-7 : tie.Need-returns-7
+returns-7 c = number (c .before) ∙ each-key (numbers (bytes "day" ∷ bytes "days" ∷ [])) Period.Day _ (refl, (refl, tt)) (c .match .keys5)
+
+returns-8 : tie.Need-returns-8
+returns-8 c = number (c .before) ∙ each-key (numbers (bytes "week" ∷ bytes "weeks" ∷ [])) Period.Week _ (refl, (refl, tt)) (c .match .keys6)
+
+returns-9 : tie.Need-returns-9
+returns-9 c = number (c .before) ∙ each-key (numbers (bytes "mon" ∷ bytes "mons" ∷ bytes "month" ∷ bytes "months" ∷ [])) Period.Month _ (refl, (refl, (refl, (refl, tt)))) (c .match .keys7)
+
+returns-10 : tie.Need-returns-10
+returns-10 c = number (c .before) ∙ each-key (numbers (bytes "yr" ∷ bytes "yrs" ∷ bytes "year" ∷ bytes "years" ∷ [])) Period.Year _ (refl, (refl, (refl, (refl, tt)))) (c .match .keys8)
+
+-- the first arm lacks the word that is too long for a number of 64 bits
+first : (x : ℕ) → (OneOf (numbers (bytes "msec" ∷ bytes "msecs" ∷ bytes "millisec" ∷ [])) x → ⊥) → x < 18446744073709551616 → OneOf (numbers (bytes "msec" ∷ bytes "msecs" ∷ bytes "millisec" ∷ bytes "millisecs" ∷ [])) x → ⊥
+first x n h (inl e) = n (inl e)
+first x n h (inr (inl e)) = n (inr (inl e))
+first x n h (inr (inr (inl e))) = n (inr (inr e))
+first x n h (inr (inr (inr e))) = omega (arith, e)
+
+returns-11 : tie.Need-returns-11
+returns-11 c =
+    let x = c .before .packed-of .result in
+    let r = c .match .rest in
+    number (c .before)
+    ∙ rw (
+      no-key (numbers (bytes "msec" ∷ bytes "msecs" ∷ bytes "millisec" ∷ bytes "millisecs" ∷ [])) x (first x (r .0 .0 .0 .0 .0 .0 .0 .1) (omega arith)),
+      no-key (numbers (bytes "s" ∷ bytes "sec" ∷ bytes "secs" ∷ bytes "second" ∷ bytes "seconds" ∷ [])) x (r .0 .0 .0 .0 .0 .0 .1),
+      no-key (numbers (bytes "min" ∷ bytes "mins" ∷ bytes "minute" ∷ bytes "minutes" ∷ [])) x (r .0 .0 .0 .0 .0 .1),
+      no-key (numbers (bytes "hr" ∷ bytes "hrs" ∷ bytes "hour" ∷ bytes "hours" ∷ [])) x (r .0 .0 .0 .0 .1),
+      no-key (numbers (bytes "day" ∷ bytes "days" ∷ [])) x (r .0 .0 .0 .1),
+      no-key (numbers (bytes "week" ∷ bytes "weeks" ∷ [])) x (r .0 .0 .1),
+      no-key (numbers (bytes "mon" ∷ bytes "mons" ∷ bytes "month" ∷ bytes "months" ∷ [])) x (r .0 .1),
+      no-key (numbers (bytes "yr" ∷ bytes "yrs" ∷ bytes "year" ∷ bytes "years" ∷ [])) x (r .1),
+    )
+
+pub period-of-spec : {M : Type 1} → statement M
+period-of-spec =
+    tie.close
+    (tie.spec
+    slice-aggregate-same-bytes
+    same-bytes-requires
+    returns
+    returns-2
+    packed-of-requires
+    returns-3
+    returns-4
+    returns-5
+    returns-6
+    returns-7
+    returns-8
+    returns-9
+    returns-10
+    returns-11)

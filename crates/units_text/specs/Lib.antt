@@ -1,0 +1,3 @@
+pub mod Packed
+pub mod UnitsRule
+pub mod Answers
