@@ -47,7 +47,15 @@ fn of_date(a: DateAnswer) -> UppinaloDateAnswer
     ensures { λ r. ⌜ r ≡ ofDate a ⌝ }
 {
     match a {
-        DateAnswer::Is(date) => return UppinaloDateAnswer { number: 0, date },
+        DateAnswer::Is(d) => {
+            // field by field: a date that is copied whole goes through memory
+            let date = Date {
+                year: d.year,
+                month: d.month,
+                day: d.day,
+            };
+            return UppinaloDateAnswer { number: 0, date };
+        }
         DateAnswer::Refused(r) => return no_date(r),
     }
 }

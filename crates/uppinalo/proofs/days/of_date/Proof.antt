@@ -1,5 +1,8 @@
 -- `uppinalo::days::of_date` meets its contract. Assumes nothing.
 use mathlib.Core.Path.{sym, ap, _∙_}
+use mir.Syntax.{w64}
+use mir.Val.{SFits}
+use mir.ValLaws.{toZ-ofZ}
 use Rattle.uppinalo.specs.Days.{ofDate}
 use borrow.Author.Needs.{needs}
 use Rattle.uppinalo.proofs.days.of_date.Statement.{statement}
@@ -9,7 +12,10 @@ enum-known-a : tie.Need-enum-known-a
 enum-known-a c = search needs
 
 returns : tie.Need-returns
-returns c = ap ofDate (sym (c .before .a .given .1))
+returns c =
+    let d = c .before .before .a .given .0 .0 in
+    let f : SFits w64 (d .year) = search needs in
+    (λ i. record { number = 0; date = record { year = toZ-ofZ w64 (d .year) f i; month = d .month; day = d .day } }) ∙ ap ofDate (sym (c .before .before .a .given .1))
 
 enum-known-a-2 : tie.Need-enum-known-a-2
 enum-known-a-2 c = search needs
