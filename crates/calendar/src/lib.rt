@@ -24,6 +24,7 @@ pub enum Calendar {
 }
 
 // A date as it is written: month and day count from 1.
+#[repr(C)]
 pub struct Date {
     pub year: i64,
     pub month: u32,
