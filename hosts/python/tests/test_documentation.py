@@ -4,7 +4,6 @@ import doctest
 import unittest
 
 import uppinalo
-from uppinalo import _axis
 
 from .calls import needs
 
@@ -12,6 +11,5 @@ from .calls import needs
 class Examples(unittest.TestCase):
     @needs("read_units", "read_whole", "read_double", "write_instant", "write_iso")
     def test_examples(self):
-        for module in (uppinalo, _axis):
-            result = doctest.testmod(module, optionflags=doctest.ELLIPSIS)
-            self.assertEqual((result.failed, result.attempted > 0), (0, True), module.__name__)
+        result = doctest.testmod(uppinalo, optionflags=doctest.ELLIPSIS)
+        self.assertEqual((result.failed, result.attempted > 4), (0, True))
