@@ -1,0 +1,96 @@
+use borrow.Author.Needs.{needs}
+use Rattle.step.proofs.months_between.Statement.{statement}
+use Rattle.step.proofs.months_between.Tie as tie
+
+year-of-requires : tie.Need-year-of-requires
+year-of-requires c κs = search needs
+
+enum-known-r : tie.Need-enum-known-r
+enum-known-r c = search needs
+
+returns : tie.Need-returns
+returns c = ?
+
+enum-known-y : tie.Need-enum-known-y
+enum-known-y c = search needs
+
+year-of-requires-2 : tie.Need-year-of-requires-2
+year-of-requires-2 c κs = search needs
+
+enum-known-r-2 : tie.Need-enum-known-r-2
+enum-known-r-2 c = search needs
+
+returns-2 : tie.Need-returns-2
+returns-2 c = ?
+
+enum-known-z : tie.Need-enum-known-z
+enum-known-z c = search needs
+
+day-down-requires : tie.Need-day-down-requires
+day-down-requires c κs = search needs
+
+returns-3 : tie.Need-returns-3
+returns-3 c = ?
+
+mul-o : tie.Need-mul-o
+mul-o c = ?
+
+sub-o : tie.Need-sub-o
+sub-o c = ?
+
+cast-o : tie.Need-cast-o
+cast-o c = search needs
+
+add-o : tie.Need-add-o
+add-o c = ?
+
+sub-o-2 : tie.Need-sub-o-2
+sub-o-2 c = ?
+
+mul-unbiased : tie.Need-mul-unbiased
+mul-unbiased c = ?
+
+sub-unbiased : tie.Need-sub-unbiased
+sub-unbiased c = ?
+
+cast-unbiased : tie.Need-cast-unbiased
+cast-unbiased c = search needs
+
+add-unbiased : tie.Need-add-unbiased
+add-unbiased c = ?
+
+add-unbiased-2 : tie.Need-add-unbiased-2
+add-unbiased-2 c = ?
+
+unbiased-requires : tie.Need-unbiased-requires
+unbiased-requires c κs = search needs
+
+returns-4 : tie.Need-returns-4
+returns-4 c = ?
+
+pub months-between-spec : {M : Type 1} → statement M
+months-between-spec =
+    tie.close
+    (tie.spec
+    year-of-requires
+    enum-known-r
+    returns
+    enum-known-y
+    year-of-requires-2
+    enum-known-r-2
+    returns-2
+    enum-known-z
+    day-down-requires
+    returns-3
+    mul-o
+    sub-o
+    cast-o
+    add-o
+    sub-o-2
+    mul-unbiased
+    sub-unbiased
+    cast-unbiased
+    add-unbiased
+    add-unbiased-2
+    unbiased-requires
+    returns-4)
