@@ -68,6 +68,10 @@ beginning c x h g =
     let y = count-of (hasYearZero c) (x .year) h (valid-year c x (valid-of c x g)) in
     record { year = y .count; is = begun c x (dayNumber c x) (y .count) (date-there c x (dayNumber c x) h g (date-of-number c x h g)) (y .is) }
 
+-- the count of the month of a date in year y
+abbrev pub monthCount : Date → ℕ → ℕ
+monthCount x y = 12 * y + (x .month - 1)
+
 module _ (c : Calendar) (x : Date) (y : ℕ) (g : Begun c x y) where
   pub year-small : y < 20000
   year-small =
@@ -78,37 +82,33 @@ module _ (c : Calendar) (x : Date) (y : ℕ) (g : Begun c x y) where
   pub valid : Valid c x
   valid = valid-of c x (g .there)
 
-  -- the count of its month
-  abbrev pub monthCount : ℕ
-  monthCount = 12 * y + (x .month - 1)
-
-  pub count-small : monthCount < 240000
+  pub count-small : monthCount x y < 240000
   count-small = omega (arith, year-small, valid .month-high)
 
-  pub month-counted : monthAt c monthCount ≡ monthOf x
+  pub month-counted : monthAt c (monthCount x y) ≡ monthOf x
   month-counted = month-is c y (x .month) (valid .month-low) (valid .month-high) ∙ ap (λ (u : ℤ). yearMonth u (x .month)) (g .year)
 
   -- ---- months
 
-  pub months-reached : (i : ℕ) → monthsOn c (subℕ i monthCount) (monthOf x) ≡ monthAt c i
-  months-reached i = ap (monthsOn c (subℕ i monthCount)) (sym month-counted) ∙ months-at c monthCount i
+  pub months-reached : (i : ℕ) → monthsOn c (subℕ i (monthCount x y)) (monthOf x) ≡ monthAt c i
+  months-reached i = ap (monthsOn c (subℕ i (monthCount x y))) (sym month-counted) ∙ months-at c (monthCount x y) i
 
   months-answered : (z : ℤ) → within (monthsAfter c z x) ≡ monthsAnswer c z x
   unfolding monthsAnswer
   months-answered z = ap (λ (a : DayAnswer). dateFrom a (within (monthsAfter c z x))) (sym (g .numbered))
 
-  module _ (k o : ℕ) (is : o ≡ 9223372036854775808 - monthCount) where
+  module _ (k o : ℕ) (is : o ≡ 9223372036854775808 - monthCount x y) where
     pub months-far : k < o → DateAnswer.Refused OutOfRange ≡ monthsAnswer c (lower k) x
     unfolding monthsAfter
     months-far h =
         outside (monthsAfter c (lower k) x)
-        (ap (λ (p : YearMonth). inYears (monthsOn c (lower k) p .year)) (sym month-counted) ∙ months-below c monthCount (lower k) (below monthCount o is (omega (arith, count-small)) k h))
+        (ap (λ (p : YearMonth). inYears (monthsOn c (lower k) p .year)) (sym month-counted) ∙ months-below c (monthCount x y) (lower k) (below (monthCount x y) o is (omega (arith, count-small)) k h))
         ∙ months-answered (lower k)
 
     pub months-near : o ≤ k → within (dateIn c (monthAt c (k - o)) (x .day)) ≡ monthsAnswer c (lower k) x
     unfolding monthsAfter
     months-near h =
-        ap (λ (p : YearMonth). within (dateIn c p (x .day))) (sym (months-reached (k - o)) ∙ ap (λ (z : ℤ). monthsOn c z (monthOf x)) (onward monthCount o is (omega (arith, count-small)) k h))
+        ap (λ (p : YearMonth). within (dateIn c p (x .day))) (sym (months-reached (k - o)) ∙ ap (λ (z : ℤ). monthsOn c z (monthOf x)) (onward (monthCount x y) o is (omega (arith, count-small)) k h))
         ∙ months-answered (lower k)
 
   -- ---- years
@@ -136,13 +136,14 @@ module _ (c : Calendar) (x : Date) (y : ℕ) (g : Begun c x y) where
 
 -- a date that is refused
 module _ (c : Calendar) (x : Date) (r : Refusal) (h : dayAnswer c x ≡ DayAnswer.Refused r) where
-  pub months-refused : (z : ℤ) → DateAnswer.Refused r ≡ monthsAnswer c z x
-  unfolding monthsAnswer
-  months-refused z = ap (λ (a : DayAnswer). dateFrom a (within (monthsAfter c z x))) (sym h)
+  pub refused : (a : DateAnswer) → DateAnswer.Refused r ≡ dateFrom (dayAnswer c x) a
+  refused a = ap (λ (u : DayAnswer). dateFrom u a) (sym h)
 
-  pub years-refused : (z : ℤ) → DateAnswer.Refused r ≡ yearsAnswer c z x
-  unfolding yearsAnswer
-  years-refused z = ap (λ (a : DayAnswer). dateFrom a (within (yearsAfter c z x))) (sym h)
+  pub first-refused : (d : Date) (a : StepAnswer) → StepAnswer.Refused r ≡ stepFrom (dayAnswer c x) (dayAnswer c d) a
+  first-refused d a = ap (λ (u : DayAnswer). stepFrom u (dayAnswer c d) a) (sym h)
+
+  pub second-refused : (d : Date) (y : ℕ) → Begun c d y → (a : StepAnswer) → StepAnswer.Refused r ≡ stepFrom (dayAnswer c d) (dayAnswer c x) a
+  second-refused d y g a = λ i. stepFrom (sym (g .numbered) i) (sym h i) a
 
 -- ---- the number of steps between two dates
 
@@ -158,3 +159,73 @@ module _ (F : ℤ → Date) (one : (z w : ℤ) → F z ≡ F w → z ≡ w) (d :
 
   pub number-of : (n : ℤ) → F n ≡ d → numberAt F d ≡ StepAnswer.Is n
   number-of n e = number-there (ap F (sym (only n e)) ∙ e) ∙ ap StepAnswer.Is (sym (only n e))
+
+-- the day of x, moved to the month of d, in year w
+abbrev pub keptDay : Calendar → Date → Date → ℕ → ℕ
+keptDay c x d w = downTo c (yearAt (hasYearZero c) w) (d .month) (x .day)
+
+module _ (c : Calendar) (x d : Date) (y w : ℕ) (g : Begun c x y) (h : Begun c d w) where
+  both-there : (a : StepAnswer) → a ≡ stepFrom (dayAnswer c x) (dayAnswer c d) a
+  both-there a = λ i. stepFrom (sym (g .numbered) i) (sym (h .numbered) i) a
+
+  -- ---- months
+
+  months-lead : monthsOn c (subℕ (monthCount d w) (monthCount x y)) (monthOf x) ≡ monthOf d
+  months-lead = months-reached c x y g (monthCount d w) ∙ month-counted c d w h
+
+  months-only : (n : ℤ) → monthsAfter c n x ≡ d → n ≡ subℕ (monthCount d w) (monthCount x y)
+  unfolding monthsAfter
+  months-only n e =
+      one-number (λ (z : ℤ). date (monthsOn c z (monthOf x) .year) (monthsOn c z (monthOf x) .month) 0) (months-rise c (monthOf x)) n (subℕ (monthCount d w) (monthCount x y))
+      (date-eq (ap (λ (u : Date). u .year) e ∙ sym (ap (λ (p : YearMonth). p .year) months-lead)) (ap (λ (u : Date). u .month) e ∙ sym (ap (λ (p : YearMonth). p .month) months-lead)) refl)
+
+  months-date : monthsAfter c (subℕ (monthCount d w) (monthCount x y)) x ≡ date (d .year) (d .month) (keptDay c x d w)
+  unfolding monthsAfter
+  months-date = ap (λ (p : YearMonth). dateIn c p (x .day)) months-lead ∙ date-eq refl refl (ap (λ (u : ℤ). downTo c u (d .month) (x .day)) (sym (h .year)))
+
+  pub months-is : keptDay c x d w ≡ d .day → StepAnswer.Is (subℕ (monthCount d w) (monthCount x y)) ≡ monthsBetween c x d
+  unfolding monthsBetween
+  months-is e =
+      let F : ℤ → Date = λ z. monthsAfter c z x in
+      let n : numberAt F d ≡ StepAnswer.Is (subℕ (monthCount d w) (monthCount x y)) = number-there F (one-number F (months-before c x)) d (monthCount x y) (monthCount d w) (count-small c x y g) (count-small c d w h) months-only (months-date ∙ date-eq refl refl e) in
+      sym n ∙ both-there (numberAt F d)
+
+  pub months-none : (keptDay c x d w ≡ d .day → ⊥) → StepAnswer.Nothing ≡ monthsBetween c x d
+  unfolding monthsBetween
+  months-none f =
+      let F : ℤ → Date = λ z. monthsAfter c z x in
+      let n : numberAt F d ≡ StepAnswer.Nothing = number-none F (one-number F (months-before c x)) d (monthCount x y) (monthCount d w) (count-small c x y g) (count-small c d w h) months-only (λ e. f (ap (λ (u : Date). u .day) (sym months-date ∙ e))) in
+      sym n ∙ both-there (numberAt F d)
+
+  -- ---- years
+
+  years-lead : yearsOn c (subℕ w y) (x .year) ≡ d .year
+  years-lead = years-reached c x y g w ∙ h .year
+
+  years-only : (n : ℤ) → yearsAfter c n x ≡ d → n ≡ subℕ w y
+  unfolding yearsAfter
+  years-only n e =
+      one-number (λ (z : ℤ). date (yearsOn c z (x .year)) 1 1) (λ z u l. by-year (years-rise c (x .year) z u l)) n (subℕ w y)
+      (date-eq (ap (λ (u : Date). u .year) e ∙ sym years-lead) refl refl)
+
+  years-date : yearsAfter c (subℕ w y) x ≡ date (d .year) (x .month) (downTo c (d .year) (x .month) (x .day))
+  unfolding yearsAfter
+  years-date = ap (λ (u : ℤ). dateIn c (yearMonth u (x .month)) (x .day)) years-lead
+
+  -- the day of x in year w, where the months are the same
+  kept-same : d .month ≡ x .month → downTo c (d .year) (x .month) (x .day) ≡ keptDay c x d w
+  kept-same m = λ i. downTo c (sym (h .year) i) (sym m i) (x .day)
+
+  pub years-is : d .month ≡ x .month → keptDay c x d w ≡ d .day → StepAnswer.Is (subℕ w y) ≡ yearsBetween c x d
+  unfolding yearsBetween
+  years-is m e =
+      let F : ℤ → Date = λ z. yearsAfter c z x in
+      let n : numberAt F d ≡ StepAnswer.Is (subℕ w y) = number-there F (one-number F (years-before c x)) d y w (omega (arith, year-small c x y g)) (omega (arith, year-small c d w h)) years-only (years-date ∙ date-eq refl (sym m) (kept-same m ∙ e)) in
+      sym n ∙ both-there (numberAt F d)
+
+  pub years-none : (d .month ≡ x .month → keptDay c x d w ≡ d .day → ⊥) → StepAnswer.Nothing ≡ yearsBetween c x d
+  unfolding yearsBetween
+  years-none f =
+      let F : ℤ → Date = λ z. yearsAfter c z x in
+      let n : numberAt F d ≡ StepAnswer.Nothing = number-none F (one-number F (years-before c x)) d y w (omega (arith, year-small c x y g)) (omega (arith, year-small c d w h)) years-only (λ e. let m = sym (ap (λ (u : Date). u .month) (sym years-date ∙ e)) in f m (sym (kept-same m) ∙ ap (λ (u : Date). u .day) (sym years-date ∙ e))) in
+      sym n ∙ both-there (numberAt F d)

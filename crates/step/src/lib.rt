@@ -1,7 +1,9 @@
 // Steps by months and years in a calendar, for calendar mode: the date that lies a number of months or years after a date, and
 // the number of months or years from one date to another. All four calls are total.
 ghost use mathlib.Core.Path.{_≡_};
-ghost use Prim.Native.Nat.{_<_};
+ghost use mathlib.Core.Bool.{cond};
+ghost use Prim.Native.Nat.{_+_, _-_, _*_, _<_, _≤_};
+ghost use lib.IntN.{subℕ};
 ghost use Rattle.calendar.specs.Calendar.{hasYearZero};
 ghost use Rattle.calendar.specs.Closed.{yearAt};
 ghost use Rattle.step.specs.Answers.{within, monthsAnswer, yearsAnswer, monthsBetween, yearsBetween};
@@ -57,7 +59,9 @@ fn day_down(c: Calendar, y: u64, month: u32, day: u32) -> u32
 }
 
 // The least year, counted from -10000, that is not below -9999.
-fn first_year(c: Calendar) -> u64 {
+fn first_year(c: Calendar) -> u64
+    ensures { λ y. ⌜ y ≡ cond (hasYearZero c) 1 2 ⌝ }
+{
     if calendar::has_year_zero(c) {
         return 1;
     }
@@ -81,6 +85,14 @@ fn date_in(c: Calendar, y: u64, month: u32, day: u32) -> DateAnswer
     });
 }
 
+// Month `month` of year y, counted from January of year -10000.
+fn month_count(y: u64, month: u32) -> u64
+    requires { ⌜ (y < 20000) × ((1 ≤ month) × (month ≤ 12)) ⌝ }
+    ensures { λ i. ⌜ i ≡ 12 * y + (month - 1) ⌝ }
+{
+    12 * y + (month - 1) as u64
+}
+
 // The date n months after x; refused as the day number of x is, then OutOfRange where its year lies past -9999 to 9999.
 pub fn months_after(c: Calendar, x: Date, n: i64) -> DateAnswer
     ensures { λ r. ⌜ r ≡ monthsAnswer c n x ⌝ }
@@ -89,7 +101,7 @@ pub fn months_after(c: Calendar, x: Date, n: i64) -> DateAnswer
         YearAnswer::Refused(r) => return DateAnswer::Refused(r),
         YearAnswer::Is(y) => {
             let k = signed::biased(n);
-            let o = 0x8000_0000_0000_0000 - (12 * y + (x.month - 1) as u64);
+            let o = 0x8000_0000_0000_0000 - month_count(y, x.month);
             if k < o {
                 return DateAnswer::Refused(Refusal::OutOfRange);
             }
@@ -116,7 +128,16 @@ pub fn years_after(c: Calendar, x: Date, n: i64) -> DateAnswer
     }
 }
 
-// The number of months from x to d, where d is the date that lies so many months after x; refused as the day numbers of x and d are.
+// The number of steps from count a to count b.
+fn difference(b: u64, a: u64) -> i64
+    requires { ⌜ (b < 240000) × (a < 240000) ⌝ }
+    ensures { λ n. ⌜ n ≡ subℕ b a ⌝ }
+{
+    signed::unbiased(b + (0x8000_0000_0000_0000 - a))
+}
+
+// The number of months from x to d: the n for which d lies n months after x, or that there is none; refused as the day number of x
+// is, then as that of d is.
 pub fn months_between(c: Calendar, x: Date, d: Date) -> StepAnswer
     ensures { λ r. ⌜ r ≡ monthsBetween c x d ⌝ }
 {
@@ -128,14 +149,14 @@ pub fn months_between(c: Calendar, x: Date, d: Date) -> StepAnswer
                 if day_down(c, z, d.month, x.day) != d.day {
                     return StepAnswer::Nothing;
                 }
-                let o = 0x8000_0000_0000_0000 - (12 * y + (x.month - 1) as u64);
-                return StepAnswer::Is(signed::unbiased(12 * z + (d.month - 1) as u64 + o));
+                return StepAnswer::Is(difference(month_count(z, d.month), month_count(y, x.month)));
             }
         },
     }
 }
 
-// The number of years from x to d, where d is the date that lies so many years after x; refused as the day numbers of x and d are.
+// The number of years from x to d: the n for which d lies n years after x, or that there is none; refused as the day number of x
+// is, then as that of d is.
 pub fn years_between(c: Calendar, x: Date, d: Date) -> StepAnswer
     ensures { λ r. ⌜ r ≡ yearsBetween c x d ⌝ }
 {
@@ -150,7 +171,7 @@ pub fn years_between(c: Calendar, x: Date, d: Date) -> StepAnswer
                 if day_down(c, z, d.month, x.day) != d.day {
                     return StepAnswer::Nothing;
                 }
-                return StepAnswer::Is(signed::unbiased(z + (0x8000_0000_0000_0000 - y)));
+                return StepAnswer::Is(difference(z, y));
             }
         },
     }

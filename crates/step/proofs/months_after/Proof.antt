@@ -17,20 +17,11 @@ enum-known-y c = search needs
 biased-requires : tie.Need-biased-requires
 biased-requires c κs = search needs
 
-mul-o : tie.Need-mul-o
-mul-o c = ?
+month-count-requires : tie.Need-month-count-requires
+month-count-requires c κs = ?
 
 sub-o : tie.Need-sub-o
 sub-o c = ?
-
-cast-o : tie.Need-cast-o
-cast-o c = search needs
-
-add-o : tie.Need-add-o
-add-o c = ?
-
-sub-o-2 : tie.Need-sub-o-2
-sub-o-2 c = ?
 
 returns-2 : tie.Need-returns-2
 returns-2 c = ?
@@ -56,11 +47,8 @@ months-after-spec =
     returns
     enum-known-y
     biased-requires
-    mul-o
+    month-count-requires
     sub-o
-    cast-o
-    add-o
-    sub-o-2
     returns-2
     add-date-in
     cast-date-in

@@ -32,38 +32,14 @@ day-down-requires c κs = search needs
 returns-3 : tie.Need-returns-3
 returns-3 c = ?
 
-mul-o : tie.Need-mul-o
-mul-o c = ?
+month-count-requires : tie.Need-month-count-requires
+month-count-requires c κs = ?
 
-sub-o : tie.Need-sub-o
-sub-o c = ?
+month-count-requires-2 : tie.Need-month-count-requires-2
+month-count-requires-2 c κs = ?
 
-cast-o : tie.Need-cast-o
-cast-o c = search needs
-
-add-o : tie.Need-add-o
-add-o c = ?
-
-sub-o-2 : tie.Need-sub-o-2
-sub-o-2 c = ?
-
-mul-unbiased : tie.Need-mul-unbiased
-mul-unbiased c = ?
-
-sub-unbiased : tie.Need-sub-unbiased
-sub-unbiased c = ?
-
-cast-unbiased : tie.Need-cast-unbiased
-cast-unbiased c = search needs
-
-add-unbiased : tie.Need-add-unbiased
-add-unbiased c = ?
-
-add-unbiased-2 : tie.Need-add-unbiased-2
-add-unbiased-2 c = ?
-
-unbiased-requires : tie.Need-unbiased-requires
-unbiased-requires c κs = search needs
+difference-requires : tie.Need-difference-requires
+difference-requires c κs = ?
 
 returns-4 : tie.Need-returns-4
 returns-4 c = ?
@@ -82,15 +58,7 @@ months-between-spec =
     enum-known-z
     day-down-requires
     returns-3
-    mul-o
-    sub-o
-    cast-o
-    add-o
-    sub-o-2
-    mul-unbiased
-    sub-unbiased
-    cast-unbiased
-    add-unbiased
-    add-unbiased-2
-    unbiased-requires
+    month-count-requires
+    month-count-requires-2
+    difference-requires
     returns-4)

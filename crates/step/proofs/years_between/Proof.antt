@@ -35,14 +35,8 @@ day-down-requires c κs = search needs
 returns-4 : tie.Need-returns-4
 returns-4 c = ?
 
-sub-unbiased : tie.Need-sub-unbiased
-sub-unbiased c = ?
-
-add-unbiased : tie.Need-add-unbiased
-add-unbiased c = ?
-
-unbiased-requires : tie.Need-unbiased-requires
-unbiased-requires c κs = search needs
+difference-requires : tie.Need-difference-requires
+difference-requires c κs = ?
 
 returns-5 : tie.Need-returns-5
 returns-5 c = ?
@@ -62,7 +56,5 @@ years-between-spec =
     returns-3
     day-down-requires
     returns-4
-    sub-unbiased
-    add-unbiased
-    unbiased-requires
+    difference-requires
     returns-5)
