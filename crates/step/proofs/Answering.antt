@@ -165,7 +165,7 @@ abbrev pub keptDay : Calendar → Date → Date → ℕ → ℕ
 keptDay c x d w = downTo c (yearAt (hasYearZero c) w) (d .month) (x .day)
 
 module _ (c : Calendar) (x d : Date) (y w : ℕ) (g : Begun c x y) (h : Begun c d w) where
-  both-there : (a : StepAnswer) → a ≡ stepFrom (dayAnswer c x) (dayAnswer c d) a
+  pub both-there : (a : StepAnswer) → a ≡ stepFrom (dayAnswer c x) (dayAnswer c d) a
   both-there a = λ i. stepFrom (sym (g .numbered) i) (sym (h .numbered) i) a
 
   -- ---- months
@@ -196,6 +196,9 @@ module _ (c : Calendar) (x d : Date) (y w : ℕ) (g : Begun c x y) (h : Begun c 
       let F : ℤ → Date = λ z. monthsAfter c z x in
       let n : numberAt F d ≡ StepAnswer.Nothing = number-none F (one-number F (months-before c x)) d (monthCount x y) (monthCount d w) (count-small c x y g) (count-small c d w h) months-only (λ e. f (ap (λ (u : Date). u .day) (sym months-date ∙ e))) in
       sym n ∙ both-there (numberAt F d)
+
+  pub months-found : (n : ℤ) → monthsAfter c n x ≡ d → numberAt (λ (z : ℤ). monthsAfter c z x) d ≡ StepAnswer.Is n
+  months-found = number-of (λ (z : ℤ). monthsAfter c z x) (one-number (λ (z : ℤ). monthsAfter c z x) (months-before c x)) d (monthCount x y) (monthCount d w) (count-small c x y g) (count-small c d w h) months-only
 
   -- ---- years
 
@@ -229,3 +232,6 @@ module _ (c : Calendar) (x d : Date) (y w : ℕ) (g : Begun c x y) (h : Begun c 
       let F : ℤ → Date = λ z. yearsAfter c z x in
       let n : numberAt F d ≡ StepAnswer.Nothing = number-none F (one-number F (years-before c x)) d y w (omega (arith, year-small c x y g)) (omega (arith, year-small c d w h)) years-only (λ e. let m = sym (ap (λ (u : Date). u .month) (sym years-date ∙ e)) in f m (sym (kept-same m) ∙ ap (λ (u : Date). u .day) (sym years-date ∙ e))) in
       sym n ∙ both-there (numberAt F d)
+
+  pub years-found : (n : ℤ) → yearsAfter c n x ≡ d → numberAt (λ (z : ℤ). yearsAfter c z x) d ≡ StepAnswer.Is n
+  years-found = number-of (λ (z : ℤ). yearsAfter c z x) (one-number (λ (z : ℤ). yearsAfter c z x) (years-before c x)) d y w (omega (arith, year-small c x y g)) (omega (arith, year-small c d w h)) years-only

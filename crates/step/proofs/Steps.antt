@@ -55,6 +55,18 @@ module _ {A : Type 0} (on back : A → A) (Lt : A → A → Type 0) (trans : (x 
       (subst (λ (y : ℤ). Lt (steps on back (subℕ (k .left) (k .least)) x) (steps on back y x)) (ap (λ (n : ℕ). subℕ n (k .least)) e ∙ k .is-right)
       (further (k .left) (k .least) (k .right - suc (k .left))))
 
+-- what each step keeps, all steps keep
+module _ {A : Type 0} (on back : A → A) (P : A → Type 0) (up : (x : A) → P x → P (on x)) (down : (x : A) → P x → P (back x)) where
+  many : (f : A → A) → ((x : A) → P x → P (f x)) → (n : ℕ) (x : A) → P x → P (times n f x)
+  unfolding times
+  many f g zero x p = p
+  many f g (suc n) x p = g (times n f x) (many f g n x p)
+
+  pub keeping : (z : ℤ) (x : A) → P x → P (steps on back z x)
+  unfolding steps
+  keeping (pos n) x p = many on up n x p
+  keeping (negsuc n) x p = many back down (suc n) x p
+
 -- ---- dates that rise with a number
 
 pub same-number : (z w : ℤ) → ltZ z w ≡ false → ltZ w z ≡ false → z ≡ w
