@@ -10,8 +10,8 @@ ghost use Rattle.grammar.specs.Reader.{scan, read};
 ghost use Rattle.grammar.specs.Rules.{span};
 ghost use Rattle.grammar.specs.Answers.{endIn};
 ghost use Rattle.date_text.specs.Answers.{writtenIn};
-ghost use Rattle.units_text.specs.Packed.{packed};
-ghost use Rattle.units_text.specs.UnitsRule.{periodWords, lookup, periodWord, spaces, mode, since, units};
+ghost use Rattle.word_table.specs.Table.{lookup};
+ghost use Rattle.units_text.specs.UnitsRule.{periodWords, periodWord, spaces, mode, since, units};
 ghost use Rattle.units_text.specs.Answers.{meaningOf, periodIn, modeIn, unitsAnswer};
 use date_text::Written;
 use date_text::WrittenAt;
@@ -24,6 +24,7 @@ use grammar::starts_in;
 use grammar::word_at;
 use period::Mode;
 use period::Period;
+use word_table::packed_of;
 
 // What a units text says.
 pub struct Units {
@@ -55,31 +56,10 @@ pub enum UnitsAnswer {
     Refused,
 }
 
-fn wide(b: u8) -> u64
-    ensures { λ r. ⌜ r ≡ b ⌝ }
-{
-    b as u64
-}
-
-// A word of at most eight bytes as one number.
-fn packed_of(d: &[u8]) -> u64
-    requires { ⌜ length (now d) ≤ 8 ⌝ }
-    requires { ⌜ every (span 1 255) (now d) ≡ true ⌝ }
-    ensures { λ r. ⌜ r ≡ packed (now (d .entry)) ⌝ }
-{
-    let mut v: u64 = 0;
-    let mut i = 0;
-    while i < d.len() {
-        let b = wide(d[i]);
-        v = v * 256 + b;
-        i += 1;
-    }
-    v
-}
-
 // What a word means in the table of period words. A word of at most eight letters is looked up as one number,
 // two hexadecimal digits a letter; only one word is longer.
 fn period_of(d: &[u8]) -> Meaning
+    requires { ⌜ 1 ≤ length (now d) ⌝ }
     requires { ⌜ every (span 97 122) (now d) ≡ true ⌝ }
     ensures { λ r. ⌜ lookup periodWords (now (d .entry)) ≡ meaningOf r ⌝ }
 {

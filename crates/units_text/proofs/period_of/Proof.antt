@@ -8,11 +8,13 @@ use mathlib.Core.List.{[], _∷_}
 use mathlib.Core.Logic.{inl, inr}
 use types.Run.{OneOf}
 use types.Run.{OneOf}
+use types.Run.{OneOf}
 use Rattle.grammar.specs.Rules.{bytes}
 use Rattle.period.specs.declared.Period.{Period}
-use Rattle.units_text.specs.UnitsRule.{periodWords, lookup}
-use Rattle.units_text.proofs.Packed.{wider}
-use Rattle.units_text.proofs.Words.{numbers, lookupPacked, period-packed, each-key, no-key, period-long}
+use Rattle.word_table.specs.Table.{lookup}
+use Rattle.word_table.proofs.Words.{numbers, byNumber, each-key, no-key}
+use Rattle.units_text.specs.UnitsRule.{periodWords}
+use Rattle.units_text.proofs.Words.{period-packed, period-long}
 use Rattle.units_text.proofs.period_of.Statement.{statement}
 use Rattle.units_text.proofs.period_of.Tie as tie
 
@@ -29,37 +31,37 @@ returns-2 : tie.Need-returns-2
 returns-2 c = period-long (c .before .before .before .before .before .args .d .now) _ (c .before .before .before .if1 .taken) (sym (c .before .same-bytes .ensures) ∙ c .if2 .left)
 
 packed-of-requires : tie.Need-packed-of-requires
-packed-of-requires c κs = (omega arith, wider 97 122 1 255 _ (omega arith) (omega arith) (c .before .before .pre))
+packed-of-requires c κs = omega arith
 
 -- the table gives the word what it gives the word's number
-number : (c : tie.After-packed-of) → lookup periodWords (c .before .before .before .args .d .now) ≡ lookupPacked periodWords (c .packed-of .result)
+number : (c : tie.After-packed-of) → lookup periodWords (c .before .before .before .args .d .now) ≡ byNumber periodWords (c .packed-of .result)
 number c =
-    period-packed _ (wider 97 122 1 255 _ (omega arith) (omega arith) (c .before .before .before .pre))
-    ∙ ap (lookupPacked periodWords) (sym (c .packed-of .ensures))
+    let st = c .before .before .before in
+    period-packed (st .args .d .now) (st .pre .0) (st .pre .1) ∙ ap (byNumber periodWords) (sym (c .packed-of .ensures))
 
 returns-3 : tie.Need-returns-3
-returns-3 c = number (c .before) ∙ each-key (numbers (bytes "msec" ∷ bytes "msecs" ∷ bytes "millisec" ∷ [])) Period.Millisecond _ (refl, (refl, (refl, tt))) (c .match .keys1)
+returns-3 c = number (c .before) ∙ each-key periodWords (numbers (bytes "msec" ∷ bytes "msecs" ∷ bytes "millisec" ∷ [])) Period.Millisecond _ (refl, (refl, (refl, tt))) (c .match .keys1)
 
 returns-4 : tie.Need-returns-4
-returns-4 c = number (c .before) ∙ each-key (numbers (bytes "s" ∷ bytes "sec" ∷ bytes "secs" ∷ bytes "second" ∷ bytes "seconds" ∷ [])) Period.Second _ (refl, (refl, (refl, (refl, (refl, tt))))) (c .match .keys2)
+returns-4 c = number (c .before) ∙ each-key periodWords (numbers (bytes "s" ∷ bytes "sec" ∷ bytes "secs" ∷ bytes "second" ∷ bytes "seconds" ∷ [])) Period.Second _ (refl, (refl, (refl, (refl, (refl, tt))))) (c .match .keys2)
 
 returns-5 : tie.Need-returns-5
-returns-5 c = number (c .before) ∙ each-key (numbers (bytes "min" ∷ bytes "mins" ∷ bytes "minute" ∷ bytes "minutes" ∷ [])) Period.Minute _ (refl, (refl, (refl, (refl, tt)))) (c .match .keys3)
+returns-5 c = number (c .before) ∙ each-key periodWords (numbers (bytes "min" ∷ bytes "mins" ∷ bytes "minute" ∷ bytes "minutes" ∷ [])) Period.Minute _ (refl, (refl, (refl, (refl, tt)))) (c .match .keys3)
 
 returns-6 : tie.Need-returns-6
-returns-6 c = number (c .before) ∙ each-key (numbers (bytes "hr" ∷ bytes "hrs" ∷ bytes "hour" ∷ bytes "hours" ∷ [])) Period.Hour _ (refl, (refl, (refl, (refl, tt)))) (c .match .keys4)
+returns-6 c = number (c .before) ∙ each-key periodWords (numbers (bytes "hr" ∷ bytes "hrs" ∷ bytes "hour" ∷ bytes "hours" ∷ [])) Period.Hour _ (refl, (refl, (refl, (refl, tt)))) (c .match .keys4)
 
 returns-7 : tie.Need-returns-7
-returns-7 c = number (c .before) ∙ each-key (numbers (bytes "day" ∷ bytes "days" ∷ [])) Period.Day _ (refl, (refl, tt)) (c .match .keys5)
+returns-7 c = number (c .before) ∙ each-key periodWords (numbers (bytes "day" ∷ bytes "days" ∷ [])) Period.Day _ (refl, (refl, tt)) (c .match .keys5)
 
 returns-8 : tie.Need-returns-8
-returns-8 c = number (c .before) ∙ each-key (numbers (bytes "week" ∷ bytes "weeks" ∷ [])) Period.Week _ (refl, (refl, tt)) (c .match .keys6)
+returns-8 c = number (c .before) ∙ each-key periodWords (numbers (bytes "week" ∷ bytes "weeks" ∷ [])) Period.Week _ (refl, (refl, tt)) (c .match .keys6)
 
 returns-9 : tie.Need-returns-9
-returns-9 c = number (c .before) ∙ each-key (numbers (bytes "mon" ∷ bytes "mons" ∷ bytes "month" ∷ bytes "months" ∷ [])) Period.Month _ (refl, (refl, (refl, (refl, tt)))) (c .match .keys7)
+returns-9 c = number (c .before) ∙ each-key periodWords (numbers (bytes "mon" ∷ bytes "mons" ∷ bytes "month" ∷ bytes "months" ∷ [])) Period.Month _ (refl, (refl, (refl, (refl, tt)))) (c .match .keys7)
 
 returns-10 : tie.Need-returns-10
-returns-10 c = number (c .before) ∙ each-key (numbers (bytes "yr" ∷ bytes "yrs" ∷ bytes "year" ∷ bytes "years" ∷ [])) Period.Year _ (refl, (refl, (refl, (refl, tt)))) (c .match .keys8)
+returns-10 c = number (c .before) ∙ each-key periodWords (numbers (bytes "yr" ∷ bytes "yrs" ∷ bytes "year" ∷ bytes "years" ∷ [])) Period.Year _ (refl, (refl, (refl, (refl, tt)))) (c .match .keys8)
 
 -- the first arm lacks the word that is too long for a number of 64 bits
 first : (x : ℕ) → (OneOf (numbers (bytes "msec" ∷ bytes "msecs" ∷ bytes "millisec" ∷ [])) x → ⊥) → x < 18446744073709551616 → OneOf (numbers (bytes "msec" ∷ bytes "msecs" ∷ bytes "millisec" ∷ bytes "millisecs" ∷ [])) x → ⊥
