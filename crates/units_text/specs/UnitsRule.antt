@@ -25,14 +25,14 @@ plural w = bytes w ∷ (bytes w ++ bytes "s") ∷ []
 -- document 01, "Periods": the table's words, row by row
 abbrev pub periodWords : List (Row Period)
 periodWords =
-    row (plural "msec" ++ plural "millisec") Millisecond
-    ∷ row (alone "s" ++ plural "sec" ++ plural "second") Second
-    ∷ row (plural "min" ++ plural "minute") Minute
-    ∷ row (plural "hr" ++ plural "hour") Hour
+    row (plural "millisec" ++ plural "msec") Millisecond
+    ∷ row (plural "second" ++ plural "sec" ++ alone "s") Second
+    ∷ row (plural "minute" ++ plural "min") Minute
+    ∷ row (plural "hour" ++ plural "hr") Hour
     ∷ row (plural "day") Day
     ∷ row (plural "week") Week
-    ∷ row (plural "mon" ++ plural "month") Month
-    ∷ row (plural "yr" ++ plural "year") Year
+    ∷ row (plural "month" ++ plural "mon") Month
+    ∷ row (plural "year" ++ plural "yr") Year
     ∷ []
 
 -- a word of the table. That it starts with one of these letters tells it from the word calendar by its first letter; the table implies it

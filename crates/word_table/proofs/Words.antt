@@ -1,14 +1,14 @@
 -- Tables looked up by numbers, and what a table says of the words in it.
 use Prim.Native.Nat.{ℕ, _<_}
 use native.Mathlib.Omega.{arith}
-use mathlib.Core.Path.{_≡_, refl, ap, _∙_}
-use mathlib.Core.Bool.{Bool, true, false, _&&_, _||_, cond}
+use mathlib.Core.Path.{_≡_, refl, sym, ap, _∙_}
+use mathlib.Core.Bool.{Bool, true, false, _&&_, _||_, cond, or-false}
 use mathlib.Core.List.{List, [], _∷_}
 use mathlib.Core.Logic.{inl, inr}
 use mathlib.Core.Option.{Option, none, some}
 use lib.Dec.{leb, eqb}
 use lib.ListN.{length}
-use borrow.Author.Tests.{ne-eqb, leb-true}
+use borrow.Author.Tests.{eqb-true, ne-eqb, leb-true}
 use types.Run.{OneOf}
 use Rattle.grammar.specs.Rules.{same}
 use Rattle.grammar.proofs.Tests.{clash, none-some, and-parts}
@@ -63,11 +63,29 @@ each-key t (k ∷ []) a x (e, u) o = ap (byNumber t) o ∙ e
 each-key t (k ∷ m ∷ ks) a x (e, u) (inl o) = ap (byNumber t) o ∙ e
 each-key t (k ∷ m ∷ ks) a x (e, u) (inr o) = each-key t (m ∷ ks) a x u o
 
--- a number that is no key
-pub no-key : (ks : List ℕ) (x : ℕ) → (OneOf ks x → ⊥) → keyed ks x ≡ false
-no-key [] x n = refl
-no-key (k ∷ []) x n = rw (ne-eqb x k n)
-no-key (k ∷ m ∷ ks) x n = rw (ne-eqb x k (λ e. n (inl e))) (no-key (m ∷ ks) x (λ o. n (inr o)))
+-- a number of 64 bits that is no key of an arm is none of the numbers that are keys or do not fit
+abbrev pub covered : List ℕ → List ℕ → Bool
+covered [] ks = true
+covered (l ∷ ls) ks = (keyed ks l || leb 18446744073709551616 l) && covered ls ks
+
+key-is : (ks : List ℕ) (x : ℕ) → keyed ks x ≡ true → OneOf ks x
+key-is [] x e = clash e refl
+key-is (k ∷ []) x e = eqb-true x k (sym (or-false (eqb x k)) ∙ e)
+key-is (k ∷ m ∷ ks) x e = go (eqb x k) refl e (λ y. key-is (m ∷ ks) x y)
+  where
+    go : (b : Bool) → eqb x k ≡ b → (b || keyed (m ∷ ks) x) ≡ true → (keyed (m ∷ ks) x ≡ true → OneOf (m ∷ ks) x) → OneOf (k ∷ m ∷ ks) x
+    go true y z i = inl (eqb-true x k y)
+    go false y z i = inr (i z)
+
+pub no-key : (ls ks : List ℕ) (x : ℕ) → covered ls ks ≡ true → x < 18446744073709551616 → (OneOf ks x → ⊥) → keyed ls x ≡ false
+no-key [] ks x g h n = refl
+no-key (l ∷ ls) ks x g h n =
+    let p = and-parts (keyed ks l || leb 18446744073709551616 l) (covered ls ks) g in
+    rw (ne-eqb x l (λ e. go (keyed ks l) refl (p .0) e)) (no-key ls ks x (p .1) h n)
+  where
+    go : (b : Bool) → keyed ks l ≡ b → (b || leb 18446744073709551616 l) ≡ true → x ≡ l → ⊥
+    go true y z e = n (key-is ks x (rw e y))
+    go false y z e = omega (arith, leb-true 18446744073709551616 l z)
 
 -- ---- words of more than eight bytes
 
