@@ -8,24 +8,23 @@ use lib.Dec.{eqb}
 use lib.IntN.{ℤ, sucℤ, subℕ}
 use borrow.Author.Tests.{eqb-true, eq-eqb}
 use Rattle.signed.proofs.Tests.{and-parts, both, to-false}
-use Rattle.signed.proofs.Differences.{sub-suc, same-diff, sub-inj}
+use Rattle.signed.proofs.Differences.{sub-suc, sub-inj}
 use Rattle.calendar.specs.Calendar.{dateOf, inYears}
 use Rattle.calendar.specs.Order.{sameYear, sameDate}
 use Rattle.calendar.specs.Answers.{numberFrom, dayNumber}
-use Rattle.calendar.specs.Closed.{base}
 use Rattle.calendar.specs.declared.Calendar.{Calendar}
 use Rattle.calendar.specs.declared.Date.{Date}
 use Rattle.calendar.proofs.Existing.{date-eq}
 use Rattle.calendar.proofs.Ordered.{same-year, year-eq, one-day}
 use Rattle.calendar.proofs.Range.{near}
 
-same-of : (x y : Date) → sameDate x y ≡ true → x ≡ y
+pub same-of : (x y : Date) → sameDate x y ≡ true → x ≡ y
 same-of x y h =
     let p = and-parts (sameYear (x .year) (y .year)) (eqb (x .month) (y .month) && eqb (x .day) (y .day)) h in
     let q = and-parts (eqb (x .month) (y .month)) (eqb (x .day) (y .day)) (p .1) in
     date-eq (year-eq (x .year) (y .year) (p .0)) (eqb-true (x .month) (y .month) (q .0)) (eqb-true (x .day) (y .day) (q .1))
 
-same-self : (x : Date) → sameDate x x ≡ true
+pub same-self : (x : Date) → sameDate x x ≡ true
 same-self x =
     both (sameYear (x .year) (x .year)) (eqb (x .month) (x .month) && eqb (x .day) (x .day)) (same-year (x .year))
     (both (eqb (x .month) (x .month)) (eqb (x .day) (x .day)) (eq-eqb (x .month) (x .month) refl) (eq-eqb (x .day) (x .day) refl))

@@ -7,6 +7,7 @@ use lib.IntN.{ℤ, pos, negsuc, sucℤ, subℕ}
 use lib.Dec.{leb}
 use lib.Signed.{leZ, ltZ}
 use borrow.Author.Tests.{leb-true, eqb-false}
+use Rattle.refusal.specs.declared.Refusal.the-variants.{NoSuchDate, OutOfRange}
 use Rattle.signed.proofs.Tests.{and-parts}
 use Rattle.signed.proofs.Differences.{sub-low, sub-high}
 use Rattle.calendar.specs.Calendar.{hasYearZero, isYear, kind, next, prev, dateOf, exists, inYears, date}
@@ -82,3 +83,18 @@ module _ (c : Calendar) where
 
   pub number-of-date : (z : ℤ) → inYears (dateOf c z .year) ≡ true → dayNumber c (dateOf c z) ≡ z
   number-of-date z h = number-is c (dateOf c z) z h refl
+
+-- what a day number that was answered says
+pub record Numbered (c : Calendar) (x : Date) (z : ℤ) : Type 0 where
+  pub inside : inYears (x .year) ≡ true
+  pub there : exists c x ≡ true
+  pub is : dateOf c z ≡ x
+
+pub answered : (c : Calendar) (x : Date) (z : ℤ) → DayAnswer.Is z ≡ dayAnswer c x → Numbered c x z
+unfolding dayAnswer
+answered c x z = go (inYears (x .year)) (exists c x) refl refl
+  where
+    go : (a b : Bool) → inYears (x .year) ≡ a → exists c x ≡ b → DayAnswer.Is z ≡ pickDayAnswer a (pickDayAnswer b (DayAnswer.Is (dayNumber c x)) (DayAnswer.Refused NoSuchDate)) (DayAnswer.Refused OutOfRange) → Numbered c x z
+    go true true e f h = let n : z ≡ dayNumber c x = (cc) in record { inside = e; there = f; is = ap (dateOf c) n ∙ date-of-number c x e f }
+    go true false e f h = absurd (let y : _≡_ {A = ℕ} 0 1 = (cc) in omega arith)
+    go false b e f h = absurd (let y : _≡_ {A = ℕ} 0 1 = (cc) in omega arith)

@@ -1,10 +1,11 @@
 -- The integer n - b, written `subℕ n b`: each law turns a fact on such integers into one on natural numbers, which `omega` reads.
 use mathlib.Core.Path.{_≡_, refl, sym, ap, _∙_}
 use mathlib.Core.Bool.{Bool, true, false, not, cond, true≢false}
-use Prim.Native.Nat.{ℕ, zero, suc, _+_, _-_, _<_, _≤_, _^_}
+use Prim.Native.Nat.{ℕ, zero, suc, _+_, _-_, _*_, _<_, _≤_, _^_}
 use native.Mathlib.Omega.{arith}
+use native.Mathlib.Nat.{add-mul}
 use lib.Dec.{leb, ltb}
-use lib.IntN.{ℤ, pos, negsuc, sucℤ, predℤ, subℕ, pred-suc, pos-ne-negsuc}
+use lib.IntN.{ℤ, pos, negsuc, sucℤ, predℤ, subℕ, negℤ, _+ℤ_, _*ℤ_, pred-suc, pos-ne-negsuc, pos-*ℤ-pos, negsuc-*ℤ-pos}
 use lib.Signed.{leZ, ltZ, mag}
 use mir.Syntax.{w64}
 use mir.Val.{SFits}
@@ -106,6 +107,25 @@ pub common : (x y : ℤ) → Common x y
 common x y =
     let b = suc (mag x + mag y) in
     record { least = b; left = lift x b; right = lift y b; is-left = lift-is x b (λ e. omega arith); is-right = lift-is y b (λ e. omega arith) }
+
+-- ---- multiples
+
+pub neg-plus : (m s : ℕ) → negℤ (pos m) +ℤ pos s ≡ subℕ s m
+neg-plus zero s = ap pos (omega arith) ∙ sym (sub-high s 0 (omega arith))
+neg-plus (suc m) s = refl
+
+-- (a - b) * d + s
+pub times-plus : (a b d s : ℕ) → subℕ a b *ℤ pos d +ℤ pos s ≡ subℕ (a * d + s) (b * d)
+times-plus a b d s =
+    by-sign (λ (z : ℤ). z *ℤ pos d +ℤ pos s ≡ subℕ (a * d + s) (b * d)) a b
+    (λ h.
+    let e : suc (b - suc a) + a ≡ b = omega arith in
+    let f : suc (b - suc a) * d + a * d ≡ b * d = sym (add-mul (suc (b - suc a)) a d) ∙ ap (λ (n : ℕ). n * d) e in
+    ap (λ (z : ℤ). z +ℤ pos s) (negsuc-*ℤ-pos (b - suc a) d) ∙ (neg-plus (suc (b - suc a) * d) s ∙ same-diff s (suc (b - suc a) * d) (a * d + s) (b * d) (omega arith)))
+    (λ h.
+    let e : a - b + b ≡ a = omega arith in
+    let f : (a - b) * d + b * d ≡ a * d = sym (add-mul (a - b) b d) ∙ ap (λ (n : ℕ). n * d) e in
+    ap (λ (z : ℤ). z +ℤ pos s) (pos-*ℤ-pos (a - b) d) ∙ (ap pos (omega arith) ∙ sym (sub-high (a * d + s) (b * d) (omega arith))))
 
 -- ---- what fits 64 bits
 

@@ -1,9 +1,6 @@
 -- `calendar::date_of_day` meets its contract. Assumes nothing.
 use mathlib.Core.Path.{_∙_, ap}
-use mir.Syntax.{w64}
-use mir.ValLaws.{toZ-ofZ}
-use Rattle.signed.specs.Bias.{lower, raise}
-use Rattle.signed.proofs.Differences.{lower-raise}
+use Rattle.signed.proofs.Machine.{crossed}
 use Rattle.calendar.specs.Answers.{dateAnswer}
 use borrow.Author.Needs.{needs}
 use Rattle.calendar.proofs.date_of_day.Statement.{statement}
@@ -20,7 +17,7 @@ returns c =
     let s = c .before .before in
     let n = s .args .n in
     c .date-of-biased-day .ensures
-    ∙ ap (dateAnswer (s .args .c)) (ap lower (c .before .biased .ensures ∙ ap raise (toZ-ofZ w64 n (s .fits .n))) ∙ lower-raise n (s .fits .n))
+    ∙ ap (dateAnswer (s .args .c)) (crossed n (c .before .biased .result) (s .fits .n) (c .before .biased .ensures))
 
 pub date-of-day-spec : {M : Type 1} → statement M
 date-of-day-spec = tie.close (tie.spec biased-requires date-of-biased-day-requires returns)

@@ -8,9 +8,9 @@ use mir.Syntax.{w64}
 use mir.Val.{SFits}
 use mir.ValLaws.{toZ-ofZ}
 use borrow.Author.Tests.{le-leb, lt-leb, leb-true}
-use Rattle.signed.specs.Bias.{raise, lower}
+use Rattle.signed.specs.Bias.{lower}
 use Rattle.signed.proofs.Tests.{both, and-parts, left-out, right-out}
-use Rattle.signed.proofs.Differences.{lower-raise}
+use Rattle.signed.proofs.Machine.{crossed}
 use Rattle.calendar.specs.Calendar.{hasYearZero, inYears, exists, date}
 use Rattle.calendar.specs.Closed.{yearAt, Counted}
 use Rattle.calendar.specs.declared.YearCount.{YearCount}
@@ -27,7 +27,7 @@ year-is : (b : tie.After-biased) → lower (b .biased .result) ≡ b .before .be
 year-is b =
     let y = b .before .before .args .x .year in
     let f : SFits w64 y = search needs in
-    ap lower (b .biased .ensures ∙ ap raise (toZ-ofZ w64 y f)) ∙ lower-raise y f
+    crossed y (b .biased .result) f (b .biased .ensures)
 
 range : (b : tie.After-biased) → inYears (b .before .before .args .x .year) ≡ (leb 9223372036854765809 (b .biased .result) && leb (b .biased .result) 9223372036854785807)
 range b = ap inYears (sym (year-is b)) ∙ year-biased (b .biased .result)

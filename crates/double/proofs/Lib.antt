@@ -1,0 +1,10 @@
+pub mod Demands
+pub mod Examples
+pub mod Distance
+pub mod Order
+pub mod Reader
+pub mod Range
+pub mod Scaling
+pub mod Significand
+pub mod Pattern
+pub mod WholeSize

@@ -1,0 +1,84 @@
+-- `double::whole::whole_of` meets its contract. proofs/WholeSize.antt goes from the fields to the definition.
+use mathlib.Core.Path.{_≡_, sym, ap, _∙_, subst}
+use Prim.Native.Nat.{_<_}
+use lib.Dec.{T}
+use lib.Ieee.{binary64, fits}
+use lib.Ieee.Compare.{differs-from-itself}
+use borrow.Author.Needs.{needs}
+use Rattle.double.specs.declared.whole.Size.{Size}
+use Rattle.double.specs.declared.whole.Size.the-variants.{Of, Fraction, Large}
+use Rattle.double.specs.Whole.{wholeOf}
+use Rattle.double.specs.Fields.{WholeSize}
+use Rattle.double.proofs.Pattern.{fieldOf, digitsOf, no-nan, finite}
+use Rattle.double.proofs.WholeSize.{when-whole, when-fraction, when-large, when-infinite}
+use Rattle.double.proofs.whole.whole_of.Statement.{statement}
+use Rattle.double.proofs.whole.whole_of.Tie as tie
+
+-- an `f64` holds a number of its format
+held : (a : tie.Start) → T (fits binary64 (a .args .x))
+held a = subst T (sym (a .good .0 .1)) tt
+
+-- ---- what `size_of` says
+module _ (c : tie.After-size-of) where
+  abbrev b : tie.Start
+  b = c .before .before .before
+
+  finite-field : fieldOf (b .args .x) < 2047
+  finite-field = finite (b .args .x) (c .before .if2 .left)
+
+  said : (r : Size) → c .size-of .result ≡ r → WholeSize r (fieldOf (b .args .x)) (digitsOf (b .args .x))
+  said r e = subst (λ (k : Size). WholeSize k (fieldOf (b .args .x)) (digitsOf (b .args .x))) e (c .size-of .ensures)
+
+returns : tie.Need-returns
+unfolding wholeOf
+returns c = sym (ap wholeOf (differs-from-itself (c .before .args .x) (subst T (sym (c .if1 .taken)) tt)))
+
+float-to-bits-bits : tie.Need-float-to-bits-bits
+float-to-bits-bits c = no-nan (c .before .args .x) (c .if1 .left)
+
+returns-2 : tie.Need-returns-2
+returns-2 c = when-infinite (c .before .before .args .x) (held (c .before .before)) (c .if2 .taken)
+
+size-of-requires : tie.Need-size-of-requires
+size-of-requires c κs = search needs
+
+enum-known-size : tie.Need-enum-known-size
+enum-known-size c = search needs
+
+with-sign-requires : tie.Need-with-sign-requires
+with-sign-requires c κs = search needs
+
+enum-told : tie.Need-enum-told
+enum-told c = search needs
+
+enum-told-2 : tie.Need-enum-told-2
+enum-told-2 c = search needs
+
+returns-3 : tie.Need-returns-3
+returns-3 c =
+    let k = c .before .before in
+    let m = c .before .before .before .before in
+    let n = k .size .given .0 .0 in
+    c .with-sign .ensures ∙ when-whole (b m .args .x) (held (b m)) (finite-field m) n (said m (Of n) (k .size .given .1))
+
+returns-4 : tie.Need-returns-4
+returns-4 c = let m = c .before .before in when-fraction (b m .args .x) (held (b m)) (finite-field m) (said m Fraction (c .enum-told .given .1))
+
+returns-5 : tie.Need-returns-5
+returns-5 c = let m = c .before .before in when-large (b m .args .x) (held (b m)) (finite-field m) (said m Large (c .enum-told2 .given .1))
+
+pub whole-of-spec : {M : Type 1} → statement M
+whole-of-spec =
+    tie.close
+    (tie.spec
+    returns
+    float-to-bits-bits
+    returns-2
+    size-of-requires
+    enum-known-size
+    with-sign-requires
+    enum-told
+    enum-told-2
+    returns-3
+    returns-4
+    returns-5)

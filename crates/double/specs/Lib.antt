@@ -1,0 +1,4 @@
+pub mod Nearest
+pub mod Reading
+pub mod Whole
+pub mod Fields

@@ -1,0 +1,25 @@
+-- The exact time that a double stands for on a fixed axis, and the count of microseconds nearest to it (document 01, "A double is read by its exact meaning").
+-- A finite double is ± m * 2 ^ e: s is its sign, true for minus, m its significand, and 2 ^ e the fraction up e / down e of whole numbers.
+-- On an axis with the reference R and P microseconds to its period, the exact time is R ± m * 2 ^ e * P. It is never rounded: all below counts in parts of a microsecond, of which down e make one.
+use mathlib.Core.Path.{_≡_}
+use mathlib.Core.Bool.{Bool, cond}
+use Prim.Native.Nat.{ℕ, _*_, _≤_, _%_}
+use lib.IntN.{ℤ, pos, negℤ, natAbs, _+ℤ_, _-ℤ_, _*ℤ_}
+use lib.Ieee.{up, down}
+
+-- n with a sign. Minus zero is zero
+abbrev pub withSign : Bool → ℕ → ℤ
+withSign s n = cond s (negℤ (pos n)) (pos n)
+
+-- m * 2 ^ e * P, in parts
+abbrev pub exactSize : ℕ → ℕ → ℤ → ℕ
+exactSize P m e = m * up e * P
+
+-- the distance of the count z from the exact time, in parts
+unfoldable pub distance : ℤ → ℕ → Bool → ℕ → ℤ → ℤ → ℕ
+distance R P s m e z = natAbs (R *ℤ pos (down e) +ℤ withSign s (exactSize P m e) -ℤ z *ℤ pos (down e))
+
+-- z is the nearest of all counts: none is closer, and where another is as close, the displacement z - R is even
+pub record IsNearest (R : ℤ) (P : ℕ) (s : Bool) (m : ℕ) (e z : ℤ) : Type 0 where
+  pub closest-of-all : (z' : ℤ) → distance R P s m e z ≤ distance R P s m e z'
+  pub even-of-two : (z' : ℤ) → distance R P s m e z ≡ distance R P s m e z' → (z ≡ z' → ⊥) → natAbs (z -ℤ R) % 2 ≡ 0

@@ -1,0 +1,81 @@
+-- Instants and their fields: document 01, "Instants and axes". An instant is a count of microseconds from 1970-01-01T00:00:00.
+use mathlib.Core.Bool.{Bool, true, false, _&&_}
+use Prim.Native.Nat.{ℕ, suc, _+_, _-_, _*_, _/_, _%_}
+use lib.Dec.{ltb}
+use lib.IntN.{ℤ, pos, negsuc, _+ℤ_, _*ℤ_}
+use Rattle.refusal.specs.declared.Refusal.the-variants.{NoSuchDate}
+use Rattle.calendar.specs.Calendar.{date, dateOf, inYears}
+use Rattle.calendar.specs.Answers.{dateAnswer, dayAnswer}
+use Rattle.calendar.specs.declared.Calendar.{Calendar}
+use Rattle.calendar.specs.declared.Date.{Date}
+use Rattle.calendar.specs.declared.DateAnswer.{DateAnswer}
+use Rattle.calendar.specs.declared.DayAnswer.{DayAnswer}
+use Rattle.instant.specs.declared.Fields.{Fields}
+use Rattle.instant.specs.declared.FieldsAnswer.{FieldsAnswer}
+use Rattle.instant.specs.declared.InstantAnswer.{InstantAnswer}
+
+-- ---- the day of an instant and its time of day
+
+-- the microseconds of a day
+abbrev pub dayLength : ℕ
+dayLength = 86400000000
+
+-- the day number: the count divided by a day, rounded down. Of -(n + 1) that is -(n / day + 1)
+unfoldable pub dayOf : ℤ → ℤ
+dayOf (pos n) = pos (n / dayLength)
+dayOf (negsuc n) = negsuc (n / dayLength)
+
+-- what is left, from the beginning of the day
+unfoldable pub timeOf : ℤ → ℕ
+timeOf (pos n) = n % dayLength
+timeOf (negsuc n) = dayLength - 1 - n % dayLength
+
+-- an instant lies in the years -9999 to 9999 where the date of its day does
+abbrev pub inRange : Calendar → ℤ → Bool
+inRange c t = inYears (dateOf c (dayOf t) .year)
+
+-- ---- the fields of an instant
+
+abbrev pub fieldsAt : Date → ℕ → Fields
+fieldsAt d s =
+    record {
+      year = d .year;
+      month = d .month;
+      day = d .day;
+      hour = s / 3600000000;
+      minute = s / 60000000 % 60;
+      second = s / 1000000 % 60;
+      microsecond = s % 1000000;
+    }
+
+abbrev pub withTime : DateAnswer → ℕ → FieldsAnswer
+withTime (DateAnswer.Is d) s = FieldsAnswer.Is (fieldsAt d s)
+withTime (DateAnswer.Refused r) s = FieldsAnswer.Refused r
+
+-- refused as the date of its day is
+unfoldable pub fieldsAnswer : Calendar → ℤ → FieldsAnswer
+fieldsAnswer c t = withTime (dateAnswer c (dayOf t)) (timeOf t)
+
+-- ---- the instant of fields
+
+abbrev pub dateIn : Fields → Date
+dateIn f = date (f .year) (f .month) (f .day)
+
+-- the fields name a time of day
+abbrev pub isClock : Fields → Bool
+isClock f = (ltb (f .hour) 24 && ltb (f .minute) 60) && (ltb (f .second) 60 && ltb (f .microsecond) 1000000)
+
+abbrev pub clockTime : Fields → ℕ
+clockTime f = ((f .hour * 60 + f .minute) * 60 + f .second) * 1000000 + f .microsecond
+
+abbrev pub pickInstant : Bool → InstantAnswer → InstantAnswer → InstantAnswer
+pickInstant true a b = a
+pickInstant false a b = b
+
+abbrev pub withClock : DayAnswer → Fields → InstantAnswer
+withClock (DayAnswer.Is n) f = pickInstant (isClock f) (InstantAnswer.Is (n *ℤ pos dayLength +ℤ pos (clockTime f))) (InstantAnswer.Refused NoSuchDate)
+withClock (DayAnswer.Refused r) f = InstantAnswer.Refused r
+
+-- refused as the day number of its date is, and then where the time of day does not exist
+unfoldable pub instantAnswer : Calendar → Fields → InstantAnswer
+instantAnswer c f = withClock (dayAnswer c (dateIn f)) f

@@ -1,0 +1,4 @@
+pub mod Closest
+pub mod Shift
+pub mod Columns
+pub mod WideShift
