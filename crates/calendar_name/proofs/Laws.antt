@@ -1,7 +1,7 @@
 -- The table of calendar names: the empty name, names of one to eight bytes by their numbers, and longer ones.
 use Prim.Native.Nat.{ℕ, _≤_, _<_}
 use native.Mathlib.Omega.{arith}
-use mathlib.Core.Path.{_≡_, refl, _∙_}
+use mathlib.Core.Path.{_≡_, refl, sym, ap, _∙_}
 use mathlib.Core.Bool.{Bool, true, false, cond, or-false}
 use mathlib.Core.List.{List, [], _∷_}
 use mathlib.Core.Option.{Option, none, some}
@@ -15,7 +15,17 @@ use Rattle.word_table.specs.Packed.{packed}
 use Rattle.word_table.proofs.Packed.{are-bytes, headed}
 use Rattle.word_table.proofs.Words.{byNumber, lookup-packed, lookup-long, lookup-word}
 use Rattle.calendar.specs.declared.Calendar.{Calendar}
-use Rattle.calendar_name.specs.Names.{calendarNames, calendarOf}
+use Rattle.calendar_name.specs.declared.CalendarNamed.{CalendarNamed}
+use Rattle.calendar_name.specs.Names.{calendarNames, calendarOf, calendarNamed}
+
+-- what an answer says of the name
+abbrev pub calendarIn : CalendarNamed → Option Calendar
+calendarIn (CalendarNamed.Is c) = some c
+calendarIn CalendarNamed.Unknown = none
+
+pub named-back : (o : Option Calendar) (r : CalendarNamed) → r ≡ calendarNamed o → o ≡ calendarIn r
+named-back none r e = ap calendarIn (sym e)
+named-back (some c) r e = ap calendarIn (sym e)
 
 pub name-empty : (w : List ℕ) → length w ≡ 0 → calendarOf w ≡ some Calendar.Standard
 unfolding calendarOf
