@@ -1,2 +1,3 @@
 pub mod DateRule
+pub mod Limit
 pub mod Answers

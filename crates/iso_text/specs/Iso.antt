@@ -4,9 +4,7 @@ use mathlib.Core.Bool.{Bool, true, false, cond}
 use mathlib.Core.List.{List}
 use mathlib.Core.Option.{Option, none, some}
 use Prim.Native.Nat.{ℕ}
-use lib.Dec.{ltb}
 use lib.IntN.{ℤ, pos, negsuc, natAbs}
-use lib.ListN.{length}
 use Rattle.refusal.specs.Number.{numberOf}
 use Rattle.refusal.specs.declared.Refusal.the-variants.{TextTooLong, UnknownCalendar, IllFormed}
 use Rattle.calendar.specs.declared.Calendar.{Calendar}
@@ -17,15 +15,13 @@ use Rattle.instant.specs.declared.InstantAnswer.{InstantAnswer}
 use Rattle.grammar.specs.Reader.{read}
 use Rattle.date_text.specs.declared.Written.{Written}
 use Rattle.date_text.specs.DateRule.{utc, date}
+use Rattle.date_text.specs.Limit.{tooLong}
 use Rattle.calendar_name.specs.Names.{calendarOf}
 use Rattle.written_instant.specs.Instants.{writtenInstant}
 use Rattle.iso_form.specs.Form.{isoText, lengthAnswer, over}
 use Rattle.iso_form.specs.declared.LengthAnswer.{LengthAnswer}
 
 -- ---- reading
-
-abbrev pub tooLong : List ℕ → Bool
-tooLong text = ltb 128 (length text)
 
 -- a text in a known calendar, by the date rule
 abbrev pub readDate : Calendar → Option Written → InstantAnswer
