@@ -1,3 +1,2 @@
 pub mod DateRule
-pub mod Limit
 pub mod Answers

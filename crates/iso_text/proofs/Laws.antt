@@ -1,51 +1,22 @@
--- What each test of the calls settles: the order of the refusals, and a year's sign and digits.
+-- A year's sign and digits.
 use Prim.Native.Nat.{ℕ, suc, _-_, _≤_, _<_}
 use native.Mathlib.Omega.{arith}
 use mathlib.Core.Path.{_≡_, refl, sym, ap, _∙_}
-use mathlib.Core.Bool.{true, _&&_}
-use mathlib.Core.List.{List}
-use mathlib.Core.Option.{Option, none, some}
+use mathlib.Core.Bool.{true}
 use lib.Dec.{leb}
 use lib.IntN.{ℤ, pos, negsuc, natAbs}
-use lib.ListN.{length}
-use lib.Signed.{leZ, ltZ}
-use borrow.Author.Tests.{leb-true, lt-ltb, le-ltb}
-use Rattle.refusal.specs.declared.Refusal.{Refusal}
+use lib.Signed.{ltZ}
+use borrow.Author.Tests.{leb-true, le-ltb}
 use Rattle.signed.specs.Bias.{lower}
 use Rattle.signed.proofs.Differences.{sub-low, sub-high}
-use Rattle.grammar.specs.Reader.{read}
 use Rattle.grammar.proofs.Tests.{and-parts}
 use Rattle.calendar.specs.Calendar.{inYears}
 use Rattle.calendar.specs.declared.Calendar.{Calendar}
 use Rattle.instant.specs.Instant.{fieldsAnswer}
 use Rattle.instant.specs.declared.Fields.{Fields}
 use Rattle.instant.specs.declared.FieldsAnswer.{FieldsAnswer}
-use Rattle.instant.specs.declared.InstantAnswer.{InstantAnswer}
 use Rattle.instant.proofs.Theorems.{shown}
-use Rattle.date_text.specs.declared.Written.{Written}
-use Rattle.date_text.specs.DateRule.{date}
-use Rattle.calendar_name.specs.Names.{calendarOf}
-use Rattle.written_instant.specs.Instants.{writtenInstant}
-use Rattle.iso_text.specs.Iso.{readIn, readDate, readIso, isNegative}
-
--- ---- reading
-
-pub text-long : (name text : List ℕ) → 128 < length text → InstantAnswer.Refused Refusal.TextTooLong ≡ readIso name text
-unfolding readIso
-text-long name text h = rw (lt-ltb 128 (length text) h)
-
-module _ (name text : List ℕ) (l : length text ≤ 128) where
-  read-named : (o : Option Calendar) → calendarOf name ≡ o → readIn o text ≡ readIso name text
-  unfolding readIso
-  read-named o e = rw (le-ltb 128 (length text) l) (ap (λ (o : Option Calendar). readIn o text) (sym e))
-
-  pub name-unknown : calendarOf name ≡ none → InstantAnswer.Refused Refusal.UnknownCalendar ≡ readIso name text
-  name-unknown e = read-named none e
-
-  pub text-read : (c : Calendar) (o : Option Written) → calendarOf name ≡ some c → read date text ≡ o → readDate c o ≡ readIso name text
-  text-read c o e f = ap (readDate c) (sym f) ∙ read-named (some c) e
-
--- ---- the year
+use Rattle.iso_text.specs.Iso.{isNegative}
 
 pub year-small : (y : ℤ) → inYears y ≡ true → natAbs y ≤ 9999
 year-small (pos n) h = leb-true n 9999 h

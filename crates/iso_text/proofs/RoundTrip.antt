@@ -1,24 +1,19 @@
 -- The round trip: reading the text of an instant gives the instant, in every calendar and for every instant in the years -9999 to 9999.
 -- So no two instants of one calendar share a text.
-use Prim.Native.Nat.{ℕ, suc, _-_, _/_, _%_, _≤_, _<_}
+use Prim.Native.Nat.{ℕ, suc, _-_, _≤_}
 use native.Mathlib.Omega.{arith}
 use mathlib.Core.Path.{_≡_, refl, sym, ap, subst, _∙_}
-use mathlib.Core.Bool.{Bool, true, false, cond, _&&_}
+use mathlib.Core.Bool.{cond}
 use mathlib.Core.List.{List}
-use mathlib.Core.Option.{Option, some}
-use lib.Dec.{leb}
-use lib.IntN.{ℤ, pos, negsuc, natAbs, _-ℤ_, +ℤ-idr}
+use mathlib.Core.Option.{some}
+use lib.IntN.{ℤ, pos, negsuc, natAbs, +ℤ-idr}
 use lib.ListN.{length}
-use lib.Signed.{leZ}
-use borrow.Author.Tests.{leb-true, le-ltb}
 use Rattle.grammar.specs.Reader.{read}
-use Rattle.grammar.proofs.Tests.{and-parts}
-use Rattle.calendar.specs.Calendar.{inYears, dateOf}
+use Rattle.calendar.specs.Calendar.{dateOf}
 use Rattle.calendar.specs.declared.Calendar.{Calendar}
-use Rattle.calendar.specs.declared.Date.{Date}
 use Rattle.calendar.proofs.Existing.{valid-of, long}
 use Rattle.calendar.proofs.Theorems.{dates-exist}
-use Rattle.instant.specs.Instant.{dayOf, timeOf, inRange, fieldsAt, fieldsAnswer, instantAnswer}
+use Rattle.instant.specs.Instant.{dayOf, timeOf, fieldsAt, fieldsAnswer, instantAnswer}
 use Rattle.instant.specs.declared.Fields.{Fields}
 use Rattle.instant.specs.declared.FieldsAnswer.{FieldsAnswer}
 use Rattle.instant.specs.declared.InstantAnswer.{InstantAnswer}
@@ -27,9 +22,10 @@ use Rattle.date_text.specs.DateRule.{utc, date}
 use Rattle.iso_form.proofs.Back.{Formed, read-back}
 use Rattle.iso_form.proofs.Laws.{iso-length}
 use Rattle.written_instant.specs.Instants.{signedOf, localFields, ranged, lessZone, writtenInstant}
+use Rattle.written_instant.proofs.Texts.{text-read}
 use Rattle.calendar_name.specs.Names.{calendarOf}
 use Rattle.iso_text.proofs.Laws.{year-small}
-use Rattle.iso_text.specs.Iso.{isNegative, writtenOf, textOf, readDate, readIn, readIso}
+use Rattle.iso_text.specs.Iso.{isNegative, writtenOf, textOf, readIso}
 
 signed-back : (y : ℤ) → signedOf (isNegative y) (natAbs y) ≡ y
 signed-back (pos n) = refl
@@ -76,7 +72,7 @@ module _ (c : Calendar) (t : ℤ) (f : Fields) (e : fieldsAnswer c t ≡ FieldsA
   unfolding readIso
   round-trip name n =
       let l : length (textOf f) ≤ 128 = omega (arith, iso-length (writtenOf f)) in
-      rw (le-ltb 128 (length (textOf f)) l) (ap (λ (o : Option Calendar). readIn o (textOf f)) n ∙ (ap (readDate c) read-text ∙ instant-back))
+      sym (text-read InstantAnswer.Refused date writtenInstant name (textOf f) l c (some (writtenOf f)) n read-text) ∙ instant-back
 
 -- no two instants of one calendar share a text
 pub one-text : (c : Calendar) (t u : ℤ) (f g : Fields) → fieldsAnswer c t ≡ FieldsAnswer.Is f → fieldsAnswer c u ≡ FieldsAnswer.Is g → textOf f ≡ textOf g → t ≡ u

@@ -1,39 +1,26 @@
 -- Reading and writing ISO text: document 01, "The units text" and "Numbers returned". A text is refused with 1, 2, 3, 4, 5 in that order,
 -- and writing with 5, then 7.
-use mathlib.Core.Bool.{Bool, true, false, cond}
+use mathlib.Core.Bool.{Bool, true, false}
 use mathlib.Core.List.{List}
-use mathlib.Core.Option.{Option, none, some}
 use Prim.Native.Nat.{ℕ}
 use lib.IntN.{ℤ, pos, negsuc, natAbs}
 use Rattle.refusal.specs.Number.{numberOf}
-use Rattle.refusal.specs.declared.Refusal.the-variants.{TextTooLong, UnknownCalendar, IllFormed}
 use Rattle.calendar.specs.declared.Calendar.{Calendar}
 use Rattle.instant.specs.Instant.{fieldsAnswer}
 use Rattle.instant.specs.declared.Fields.{Fields}
 use Rattle.instant.specs.declared.FieldsAnswer.{FieldsAnswer}
 use Rattle.instant.specs.declared.InstantAnswer.{InstantAnswer}
-use Rattle.grammar.specs.Reader.{read}
 use Rattle.date_text.specs.declared.Written.{Written}
 use Rattle.date_text.specs.DateRule.{utc, date}
-use Rattle.date_text.specs.Limit.{tooLong}
-use Rattle.calendar_name.specs.Names.{calendarOf}
 use Rattle.written_instant.specs.Instants.{writtenInstant}
+use Rattle.written_instant.specs.Texts.{readText}
 use Rattle.iso_form.specs.Form.{isoText, lengthAnswer, over}
 use Rattle.iso_form.specs.declared.LengthAnswer.{LengthAnswer}
 
 -- ---- reading
 
--- a text in a known calendar, by the date rule
-abbrev pub readDate : Calendar → Option Written → InstantAnswer
-readDate c none = InstantAnswer.Refused IllFormed
-readDate c (some w) = writtenInstant c w
-
-abbrev pub readIn : Option Calendar → List ℕ → InstantAnswer
-readIn none text = InstantAnswer.Refused UnknownCalendar
-readIn (some c) text = readDate c (read date text)
-
 unfoldable pub readIso : List ℕ → List ℕ → InstantAnswer
-readIso name text = cond (tooLong text) (InstantAnswer.Refused TextTooLong) (readIn (calendarOf name) text)
+readIso name text = readText InstantAnswer.Refused date writtenInstant name text
 
 -- ---- writing
 

@@ -2,13 +2,12 @@
 -- zone does not exist, and then 5 exactly where the instant after the zone lies past the years -9999 to 9999.
 use Prim.Native.Nat.{ℕ, zero, suc, _≤_}
 use native.Mathlib.Omega.{arith}
-use mathlib.Core.Path.{_≡_, refl, sym, ap, subst, _∙_}
+use mathlib.Core.Path.{_≡_, refl}
 use mathlib.Core.Bool.{Bool, true, false, cond, _&&_}
 use mathlib.Core.List.{List}
 use mathlib.Core.Option.{some}
 use lib.Dec.{leb}
-use lib.IntN.{ℤ, pos, negsuc, _+ℤ_, _*ℤ_, _-ℤ_}
-use lib.Signed.{leZ}
+use lib.IntN.{ℤ, pos, _+ℤ_, _*ℤ_, _-ℤ_}
 use borrow.Author.Tests.{le-leb}
 use Rattle.refusal.specs.declared.Refusal.{Refusal}
 use Rattle.grammar.specs.Grammar.{Derives}

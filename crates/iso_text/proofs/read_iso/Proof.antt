@@ -6,7 +6,8 @@ use Rattle.date_text.specs.DateRule.{date}
 use Rattle.grammar.specs.Reader.{read}
 use Rattle.calendar_name.proofs.Laws.{calendarIn, named-back}
 use Rattle.date_text.proofs.Texts.{writtenValue, written-back}
-use Rattle.iso_text.proofs.Laws.{text-long, name-unknown, text-read}
+use Rattle.written_instant.proofs.Texts.{text-long, name-unknown, text-read}
+use Rattle.iso_text.specs.Iso.{readIso}
 use Rattle.iso_text.proofs.read_iso.Statement.{statement}
 use Rattle.iso_text.proofs.read_iso.Tie as tie
 
@@ -18,7 +19,8 @@ written : (d : tie.After-read-date) → read date (d .before .before .before .be
 written d = written-back (read date (d .before .before .before .before .before .before .before .before .args .text .now)) (d .read-date .result) (d .read-date .ensures)
 
 returns : tie.Need-returns
-returns c = let a = c .before .before .before .args in text-long (a .name .now) (a .text .now) (c .if1 .taken)
+unfolding readIso
+returns c = let a = c .before .before .before .args in text-long _ _ _ (a .name .now) (a .text .now) (c .if1 .taken)
 
 calendar-of-requires : tie.Need-calendar-of-requires
 calendar-of-requires c κs = search needs
@@ -30,10 +32,11 @@ enum-told : tie.Need-enum-told
 enum-told c = search needs
 
 returns-2 : tie.Need-returns-2
+unfolding readIso
 returns-2 c =
     let k = c .before .before in
     let a = k .before .before .before .before .args in
-    name-unknown (a .name .now) (a .text .now) (k .before .if1 .left) (calendar k ∙ ap calendarIn (c .enum-told .given .1))
+    name-unknown _ _ _ (a .name .now) (a .text .now) (k .before .if1 .left) (calendar k ∙ ap calendarIn (c .enum-told .given .1))
 
 read-date-requires : tie.Need-read-date-requires
 read-date-requires c κs = search needs
@@ -45,17 +48,19 @@ enum-told-2 : tie.Need-enum-told-2
 enum-told-2 c = search needs
 
 returns-3 : tie.Need-returns-3
+unfolding readIso
 returns-3 c =
     let d = c .before .before in
     let n = d .before .before in
     let k = n .before .before in
     let a = k .before .before .before .before .args in
-    text-read (a .name .now) (a .text .now) (k .before .if1 .left) _ _ (calendar k ∙ ap calendarIn (n .c .given .1)) (written d ∙ ap writtenValue (c .enum-told2 .given .1))
+    text-read _ _ _ (a .name .now) (a .text .now) (k .before .if1 .left) _ _ (calendar k ∙ ap calendarIn (n .c .given .1)) (written d ∙ ap writtenValue (c .enum-told2 .given .1))
 
 written-instant-requires : tie.Need-written-instant-requires
 written-instant-requires c κs = search needs
 
 returns-4 : tie.Need-returns-4
+unfolding readIso
 returns-4 c =
     let w = c .before .before in
     let d = w .before .before in
@@ -63,7 +68,7 @@ returns-4 c =
     let k = n .before .before in
     let a = k .before .before .before .before .args in
     c .written-instant .ensures
-    ∙ text-read (a .name .now) (a .text .now) (k .before .if1 .left) _ _ (calendar k ∙ ap calendarIn (n .c .given .1)) (written d ∙ ap writtenValue (w .w .given .1))
+    ∙ text-read _ _ _ (a .name .now) (a .text .now) (k .before .if1 .left) _ _ (calendar k ∙ ap calendarIn (n .c .given .1)) (written d ∙ ap writtenValue (w .w .given .1))
 
 pub read-iso-spec : {M : Type 1} → statement M
 read-iso-spec =
