@@ -18,8 +18,11 @@ abbrev pub axisAt : Calendar → Units → InstantAnswer → AxisAnswer
 axisAt c u (InstantAnswer.Is t) = AxisAnswer.Is (record { calendar = c; period = u .period; mode = u .mode; reference = t })
 axisAt c u (InstantAnswer.Refused r) = AxisAnswer.Refused r
 
+abbrev pub axisOf : Calendar → Units → AxisAnswer
+axisOf c u = axisAt c u (writtenInstant c (u .reference))
+
 unfoldable pub readUnits : List ℕ → List ℕ → AxisAnswer
-readUnits name text = readText AxisAnswer.Refused units (λ c u. axisAt c u (writtenInstant c (u .reference))) name text
+readUnits name text = readText AxisAnswer.Refused units axisOf name text
 
 -- document 01's number and value of each answer
 abbrev pub axisNumber : AxisAnswer → ℕ
