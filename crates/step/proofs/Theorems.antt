@@ -1,5 +1,5 @@
 -- What is proved of steps by months and years, in one place. `c` is any of the six calendars; z, w and n are any integers.
-use mathlib.Core.Path.{_≡_, refl, sym, ap, _∙_}
+use mathlib.Core.Path.{_≡_, refl, sym, _∙_}
 use mathlib.Core.Bool.{true}
 use Prim.Native.Nat.{ℕ}
 use native.Mathlib.Omega.{arith}
