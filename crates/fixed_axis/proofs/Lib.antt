@@ -1,1 +1,5 @@
 pub mod Range
+pub mod Sums
+pub mod Reading
+pub mod Joined
+pub mod Writing
