@@ -3,3 +3,5 @@ pub mod Sums
 pub mod Reading
 pub mod Joined
 pub mod Writing
+pub mod Dates
+pub mod Offsets
