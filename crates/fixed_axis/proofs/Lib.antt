@@ -5,3 +5,4 @@ pub mod Joined
 pub mod Writing
 pub mod Dates
 pub mod Offsets
+pub mod Demands
