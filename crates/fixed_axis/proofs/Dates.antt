@@ -10,7 +10,6 @@ use borrow.Author.Tests.{le-leb, leb-true}
 use Rattle.signed.specs.Bias.{lift}
 use Rattle.signed.proofs.Order.{lt-not-le}
 use Rattle.signed.proofs.Differences.{by-sign, sub-low, sub-high, lift-is}
-use Rattle.calendar.specs.Calendar.{dateOf}
 use Rattle.calendar.specs.declared.Calendar.{Calendar}
 use Rattle.calendar.proofs.Theorems.{order, one-day}
 use Rattle.instant.specs.Instant.{dayOf, timeOf}

@@ -1,7 +1,6 @@
 -- The reading of a double by its meaning is the one between two instants that crate `double` computes.
-use mathlib.Core.Path.{_≡_, refl, sym, ap, _∙_}
-use mathlib.Core.Bool.{Bool, cond}
-use Prim.Native.Nat.{ℕ}
+use mathlib.Core.Path.{_≡_, refl, sym}
+use mathlib.Core.Bool.{cond}
 use lib.IntN.{ℤ}
 use lib.Ieee.{Float, nan, inf, fin}
 use Rattle.refusal.specs.declared.Refusal.the-variants.{OutOfRange}
@@ -9,7 +8,6 @@ use Rattle.signed.specs.Bias.{lower}
 use Rattle.calendar.specs.declared.Calendar.{Calendar}
 use Rattle.period.specs.Lengths.{lengthOf}
 use Rattle.period.specs.declared.Period.{Period}
-use Rattle.instant.specs.Instant.{inRange}
 use Rattle.double.specs.Reading.{nearestCount}
 use Rattle.double.specs.Reading.{readDouble as readBetween, readFloat as floatBetween}
 use Rattle.double.specs.declared.Reading.{Reading}

@@ -119,15 +119,15 @@ fn periods_between(p: Period, r: u64, k: u64) -> OffsetAnswer
 {
     let micros = period::microseconds(p);
     if k < r {
-        let d = r - k;
-        if d % micros == 0 {
-            return OffsetAnswer::Is(signed::unbiased(0x8000_0000_0000_0000 - d / micros));
+        let before = r - k;
+        if before % micros == 0 {
+            return OffsetAnswer::Is(signed::unbiased(0x8000_0000_0000_0000 - before / micros));
         }
         return OffsetAnswer::Refused(Refusal::Inexact);
     }
-    let d = k - r;
-    if d % micros == 0 {
-        return OffsetAnswer::Is(signed::unbiased(0x8000_0000_0000_0000 + d / micros));
+    let after = k - r;
+    if after % micros == 0 {
+        return OffsetAnswer::Is(signed::unbiased(0x8000_0000_0000_0000 + after / micros));
     }
     return OffsetAnswer::Refused(Refusal::Inexact);
 }
@@ -136,11 +136,11 @@ fn periods_between(p: Period, r: u64, k: u64) -> OffsetAnswer
 pub fn write_instant(c: Calendar, p: Period, reference: i64, t: i64) -> OffsetAnswer
     ensures { λ a. ⌜ a ≡ writeInstant c p reference t ⌝ }
 {
-    let r = signed::biased(reference);
-    if in_range(c, r) {
-        let k = signed::biased(t);
-        if in_range(c, k) {
-            return periods_between(p, r, k);
+    let from = signed::biased(reference);
+    if in_range(c, from) {
+        let to = signed::biased(t);
+        if in_range(c, to) {
+            return periods_between(p, from, to);
         }
         return OffsetAnswer::Refused(Refusal::OutOfRange);
     }

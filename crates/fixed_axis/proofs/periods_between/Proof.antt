@@ -1,5 +1,5 @@
 -- `fixed_axis::periods_between` meets its contract. proofs/Writing.antt has the quotient.
-use mathlib.Core.Path.{_≡_, sym, ap, _∙_, subst}
+use mathlib.Core.Path.{_≡_, sym, ap, _∙_}
 use mathlib.Core.Bool.{Bool, cond}
 use Prim.Native.Nat.{ℕ, _+_, _-_, _/_, _%_, _≤_}
 use native.Mathlib.Omega.{arith}
@@ -33,8 +33,8 @@ module _ (m : tie.After-microseconds) where
 microseconds-requires : tie.Need-microseconds-requires
 microseconds-requires c κs = search needs
 
-sub-d : tie.Need-sub-d
-sub-d c = search needs
+sub-before : tie.Need-sub-before
+sub-before c = search needs
 
 rem-if2 : tie.Need-rem-if2
 rem-if2 c = omega (arith, long (c .before))
@@ -109,7 +109,7 @@ periods-between-spec =
     tie.close
     (tie.spec
     microseconds-requires
-    sub-d
+    sub-before
     rem-if2
     div-unbiased
     sub-unbiased
