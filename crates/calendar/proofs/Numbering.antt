@@ -18,13 +18,13 @@ use Rattle.calendar.proofs.Existing.{date-eq}
 use Rattle.calendar.proofs.Ordered.{same-year, year-eq, one-day}
 use Rattle.calendar.proofs.Range.{near}
 
-same-of : (x y : Date) → sameDate x y ≡ true → x ≡ y
+pub same-of : (x y : Date) → sameDate x y ≡ true → x ≡ y
 same-of x y h =
     let p = and-parts (sameYear (x .year) (y .year)) (eqb (x .month) (y .month) && eqb (x .day) (y .day)) h in
     let q = and-parts (eqb (x .month) (y .month)) (eqb (x .day) (y .day)) (p .1) in
     date-eq (year-eq (x .year) (y .year) (p .0)) (eqb-true (x .month) (y .month) (q .0)) (eqb-true (x .day) (y .day) (q .1))
 
-same-self : (x : Date) → sameDate x x ≡ true
+pub same-self : (x : Date) → sameDate x x ≡ true
 same-self x =
     both (sameYear (x .year) (x .year)) (eqb (x .month) (x .month) && eqb (x .day) (x .day)) (same-year (x .year))
     (both (eqb (x .month) (x .month)) (eqb (x .day) (x .day)) (eq-eqb (x .month) (x .month) refl) (eq-eqb (x .day) (x .day) refl))

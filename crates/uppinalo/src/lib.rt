@@ -1,0 +1,3 @@
+// The face of the library: the calls of include/uppinalo.h, thin, each with its complete promise.
+pub mod codes;
+pub mod days;
