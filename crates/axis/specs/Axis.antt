@@ -63,9 +63,9 @@ readMoved c moved R = fromReference c R (onDay (dayAnswer c (moved (dateAt c R))
 
 -- the number of steps between two dates as an offset; there is none where the times of day differ
 abbrev pub offsetFrom : StepAnswer → Bool → OffsetAnswer
-offsetFrom (StepAnswer.Is n) sameTime = cond sameTime (OffsetAnswer.Is n) (OffsetAnswer.Refused Inexact)
-offsetFrom StepAnswer.Nothing sameTime = OffsetAnswer.Refused Inexact
-offsetFrom (StepAnswer.Refused r) sameTime = OffsetAnswer.Refused r
+offsetFrom (StepAnswer.Is n) same = cond same (OffsetAnswer.Is n) (OffsetAnswer.Refused Inexact)
+offsetFrom StepAnswer.Nothing same = OffsetAnswer.Refused Inexact
+offsetFrom (StepAnswer.Refused r) same = OffsetAnswer.Refused r
 
 unfoldable pub writeMoved : Calendar → (Date → Date → StepAnswer) → ℤ → ℤ → OffsetAnswer
 writeMoved c between R t =

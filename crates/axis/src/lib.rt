@@ -122,10 +122,12 @@ fn read_step(c: Calendar, p: Period, reference: i64, n: i64) -> Reading
 pub fn read_whole(axis: Axis, n: i64) -> Reading
     ensures { λ r. ⌜ r ≡ readWholeOn axis n ⌝ }
 {
+    let c = axis.calendar;
+    let p = axis.period;
     let mode = axis.mode;
     match mode {
-        Mode::Fixed => return fixed_axis::read_whole(axis.calendar, axis.period, axis.reference, n),
-        Mode::Calendar => return read_step(axis.calendar, axis.period, axis.reference, n),
+        Mode::Fixed => return fixed_axis::read_whole(c, p, axis.reference, n),
+        Mode::Calendar => return read_step(c, p, axis.reference, n),
     }
 }
 
@@ -146,10 +148,12 @@ fn read_as_whole(c: Calendar, p: Period, reference: i64, x: f64) -> Reading
 pub fn read_double(axis: Axis, x: f64) -> Reading
     ensures { λ r. ⌜ r ≡ readDoubleOn axis x ⌝ }
 {
+    let c = axis.calendar;
+    let p = axis.period;
     let mode = axis.mode;
     match mode {
-        Mode::Fixed => return fixed_axis::read_double(axis.calendar, axis.period, axis.reference, x),
-        Mode::Calendar => return read_as_whole(axis.calendar, axis.period, axis.reference, x),
+        Mode::Fixed => return fixed_axis::read_double(c, p, axis.reference, x),
+        Mode::Calendar => return read_as_whole(c, p, axis.reference, x),
     }
 }
 
@@ -164,14 +168,14 @@ pub fn read(axis: Axis, offset: Offset) -> Reading
 }
 
 // The number of steps as an offset, where the times of day are the same.
-fn offset_from(steps: StepAnswer, same_time: bool) -> OffsetAnswer
-    ensures { λ r. ⌜ r ≡ offsetFrom steps same_time ⌝ }
+fn offset_from(steps: StepAnswer, same: bool) -> OffsetAnswer
+    ensures { λ r. ⌜ r ≡ offsetFrom steps same ⌝ }
 {
     match steps {
         StepAnswer::Nothing => return OffsetAnswer::Refused(Refusal::Inexact),
         StepAnswer::Refused(r) => return OffsetAnswer::Refused(r),
         StepAnswer::Is(n) => {
-            if same_time {
+            if same {
                 return OffsetAnswer::Is(n);
             }
             return OffsetAnswer::Refused(Refusal::Inexact);
@@ -224,10 +228,12 @@ fn write_step(c: Calendar, p: Period, reference: i64, t: i64) -> OffsetAnswer
 pub fn write_instant(axis: Axis, t: i64) -> OffsetAnswer
     ensures { λ r. ⌜ r ≡ writeInstantOn axis t ⌝ }
 {
+    let c = axis.calendar;
+    let p = axis.period;
     let mode = axis.mode;
     match mode {
-        Mode::Fixed => return fixed_axis::write_instant(axis.calendar, axis.period, axis.reference, t),
-        Mode::Calendar => return write_step(axis.calendar, axis.period, axis.reference, t),
+        Mode::Fixed => return fixed_axis::write_instant(c, p, axis.reference, t),
+        Mode::Calendar => return write_step(c, p, axis.reference, t),
     }
 }
 
@@ -235,8 +241,9 @@ pub fn write_instant(axis: Axis, t: i64) -> OffsetAnswer
 pub fn write_fields(axis: Axis, f: Fields) -> OffsetAnswer
     ensures { λ r. ⌜ r ≡ writeFieldsOn axis f ⌝ }
 {
-    if fixed_axis::in_range(axis.calendar, signed::biased(axis.reference)) {
-        match instant::instant_of(axis.calendar, f) {
+    let c = axis.calendar;
+    if fixed_axis::in_range(c, signed::biased(axis.reference)) {
+        match instant::instant_of(c, f) {
             InstantAnswer::Refused(r) => return OffsetAnswer::Refused(r),
             InstantAnswer::Is(t) => return write_instant(axis, t),
         }

@@ -1,22 +1,18 @@
 -- Days and times of day under sums and under the order of instants.
 use mathlib.Core.Path.{_≡_, refl, sym, ap, _∙_}
 use mathlib.Core.Bool.{true, false, not, false≢true}
-use Prim.Native.Nat.{ℕ, suc, _+_, _-_, _*_, _/_, _%_, _≤_}
+use Prim.Native.Nat.{suc, _+_, _-_, _*_, _/_, _≤_}
 use native.Mathlib.Omega.{arith}
-use native.Mathlib.Nat.{add-mul}
-use lib.IntN.{ℤ, pos, negsuc, subℕ, _+ℤ_, _*ℤ_, pos-ne-negsuc, natAbs}
-use lib.Signed.{leZ, mag}
+use lib.IntN.{ℤ, pos, negsuc, _+ℤ_, _*ℤ_, pos-ne-negsuc, natAbs}
+use lib.Signed.{leZ}
 use borrow.Author.Tests.{le-leb, leb-true}
-use Rattle.signed.specs.Bias.{lift}
 use Rattle.signed.proofs.Order.{lt-not-le}
 use Rattle.signed.proofs.Integers.{swap, over-sum}
-use Rattle.signed.proofs.Differences.{by-sign, sub-low, sub-high, lift-is}
 use Rattle.calendar.specs.declared.Calendar.{Calendar}
 use Rattle.calendar.proofs.Theorems.{order, one-day}
 use Rattle.instant.specs.Instant.{dayOf, timeOf}
 use Rattle.instant.proofs.Theorems.{day-of-sum, time-of-sum, time-small, day-and-time}
 use Rattle.fixed_axis.specs.Demands.{InOrder}
-use Rattle.fixed_axis.proofs.Sums.{sub-plus, sub-times}
 
 -- ---- so many whole days on, the day number is greater by as much, and the time of day is kept
 module _ (R n : ℤ) where
