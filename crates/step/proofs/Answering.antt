@@ -1,6 +1,6 @@
 -- The answers, from the counts that the functions compute.
-use mathlib.Core.Path.{_≡_, refl, sym, ap, _∙_, subst}
-use mathlib.Core.Bool.{Bool, true, false, _&&_}
+use mathlib.Core.Path.{_≡_, refl, sym, ap, _∙_}
+use mathlib.Core.Bool.{true, false}
 use Prim.Native.Nat.{ℕ, _+_, _-_, _*_, _<_, _≤_}
 use native.Mathlib.Omega.{arith}
 use lib.Dec.{leb}
@@ -13,7 +13,7 @@ use Rattle.signed.specs.Bias.{lower}
 use Rattle.signed.proofs.Tests.{and-parts}
 use Rattle.signed.proofs.Differences.{same-diff, sub-lt}
 use Rattle.calendar.specs.Calendar.{hasYearZero, exists, inYears, date}
-use Rattle.calendar.specs.Answers.{dayAnswer, dayNumber, pickDateAnswer}
+use Rattle.calendar.specs.Answers.{dayAnswer, dayNumber}
 use Rattle.calendar.specs.Closed.{yearAt}
 use Rattle.calendar.specs.declared.Calendar.{Calendar}
 use Rattle.calendar.specs.declared.Date.{Date}

@@ -10,8 +10,8 @@ use lib.IntN.{ℤ, pos}
 use Rattle.signed.proofs.Tests.{both, and-parts}
 use Rattle.calendar.specs.Calendar.{exists, date, lastDay, isStandard, dropped}
 use Rattle.calendar.specs.declared.Calendar.{Calendar}
-use Rattle.calendar.proofs.Existing.{Valid, valid-of, exists-of, long, noYear, not-missing, not-there, Dropped, dropped-of, is-dropped, valid-day}
-use Rattle.step.specs.Months.{downTo, pickDay}
+use Rattle.calendar.proofs.Existing.{Valid, exists-of, long, noYear, not-missing, not-there, Dropped, dropped-of, is-dropped, valid-day}
+use Rattle.step.specs.Months.{downTo}
 
 module _ (c : Calendar) (y : ℤ) (m : ℕ) where
   -- a day that exists is kept

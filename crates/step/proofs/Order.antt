@@ -1,5 +1,5 @@
 -- Dates that lie more months, or more years, after a date are later: for every date and all numbers.
-use mathlib.Core.Path.{_≡_, refl, ap}
+use mathlib.Core.Path.{_≡_, refl}
 use mathlib.Core.Bool.{Bool, true, false, cond}
 use Prim.Native.Nat.{ℕ, zero, suc, _+_, _-_}
 use native.Mathlib.Omega.{arith}
@@ -12,7 +12,7 @@ use Rattle.calendar.specs.Calendar.{hasYearZero, yearAfter, yearBefore, skipBef
 use Rattle.calendar.specs.declared.Calendar.{Calendar}
 use Rattle.calendar.specs.declared.Date.{Date}
 use Rattle.calendar.proofs.Ordered.{Before, by-year, by-month, by-day, before-trans, year-later}
-use Rattle.step.specs.Months.{YearMonth, yearMonth, pickMonth, monthAfter, monthBefore, monthsOn, yearsOn, monthOf, downTo, dateIn, monthsAfter, yearsAfter}
+use Rattle.step.specs.Months.{YearMonth, yearMonth, pickMonth, monthAfter, monthBefore, monthsOn, yearsOn, monthOf, downTo, monthsAfter, yearsAfter}
 use Rattle.step.proofs.Steps.{rising}
 
 -- ---- years

@@ -1,7 +1,6 @@
 -- `step::day_down` meets its contract. The loop passes only days that do not exist. Assumes nothing.
 use mathlib.Core.Path.{_≡_, refl, sym, ap, _∙_}
 use native.Mathlib.Omega.{arith}
-use Prim.Native.Nat.{ℕ, _≤_}
 use borrow.Author.Needs.{needs}
 use Rattle.calendar.specs.Calendar.{hasYearZero}
 use Rattle.calendar.specs.Closed.{yearAt}

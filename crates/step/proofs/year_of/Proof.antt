@@ -1,6 +1,6 @@
 -- `step::year_of` meets its contract. Assumes nothing.
-use mathlib.Core.Path.{_≡_, refl, sym, ap, _∙_, subst}
-use mathlib.Core.Bool.{Bool, true, _&&_, true≢false}
+use mathlib.Core.Path.{_≡_, sym, ap, _∙_, subst}
+use mathlib.Core.Bool.{Bool, true, true≢false}
 use lib.Dec.{leb}
 use mir.Syntax.{w64}
 use mir.Val.{SFits}
@@ -8,10 +8,8 @@ use borrow.Author.Tests.{leb-true}
 use Rattle.signed.specs.Bias.{lower}
 use Rattle.signed.proofs.Machine.{crossed}
 use Rattle.signed.proofs.Tests.{and-parts}
-use Rattle.calendar.specs.Answers.{dayAnswer}
-use Rattle.calendar.specs.Calendar.{hasYearZero, inYears}
+use Rattle.calendar.specs.Calendar.{inYears}
 use Rattle.calendar.specs.Closed.{yearAt, Counted}
-use Rattle.calendar.specs.declared.DayAnswer.{DayAnswer}
 use Rattle.calendar.specs.declared.YearCount.{YearCount}
 use Rattle.calendar.proofs.Answering.{year-biased}
 use Rattle.calendar.proofs.Existing.{valid-of, valid-year, no-year}
