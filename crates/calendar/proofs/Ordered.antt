@@ -34,7 +34,7 @@ lt-skip (pos n) = lt-ltb n (suc n) (omega arith)
 lt-skip (negsuc zero) = refl
 lt-skip (negsuc (suc n)) = lt-ltb n (suc n) (omega arith)
 
-year-later : (c : Calendar) (y : ℤ) → ltZ y (yearAfter c y) ≡ true
+pub year-later : (c : Calendar) (y : ℤ) → ltZ y (yearAfter c y) ≡ true
 unfolding yearAfter
 year-later c y = go (hasYearZero c)
   where
@@ -44,12 +44,12 @@ year-later c y = go (hasYearZero c)
 
 -- ---- the three ways to be earlier
 
-data Before (x y : Date) : Type 0 where
+pub data Before (x y : Date) : Type 0 where
   by-year : ltZ (x .year) (y .year) ≡ true → Before x y
   by-month : x .year ≡ y .year → x .month < y .month → Before x y
   by-day : x .year ≡ y .year → x .month ≡ y .month → x .day < y .day → Before x y
 
-before-of : (x y : Date) → earlier x y ≡ true → Before x y
+pub before-of : (x y : Date) → earlier x y ≡ true → Before x y
 unfolding earlier
 before-of x y h = go (ltZ (x .year) (y .year)) (sameYear (x .year) (y .year)) (ltb (x .month) (y .month)) (eqb (x .month) (y .month)) (ltb (x .day) (y .day)) refl refl refl refl refl h
   where
@@ -61,13 +61,13 @@ before-of x y h = go (ltZ (x .year) (y .year)) (sameYear (x .year) (y .year)) (l
     go false true false false e p q r s t g = absurd (false≢true g)
     go false false c d e p q r s t g = absurd (false≢true g)
 
-earlier-of : (x y : Date) → Before x y → earlier x y ≡ true
+pub earlier-of : (x y : Date) → Before x y → earlier x y ≡ true
 unfolding earlier
 earlier-of x y (by-year h) = rw h
 earlier-of x y (by-month e h) = rw (e, same-year (y .year), lt-ltb (x .month) (y .month) h) (or-true (ltZ (y .year) (y .year)))
 earlier-of x y (by-day e f h) = rw (e, same-year (y .year), f, eq-eqb (y .month) (y .month) refl, lt-ltb (x .day) (y .day) h, or-true (ltb (y .month) (y .month))) (or-true (ltZ (y .year) (y .year)))
 
-before-trans : (x y z : Date) → Before x y → Before y z → Before x z
+pub before-trans : (x y z : Date) → Before x y → Before y z → Before x z
 before-trans x y z (by-year a) (by-year b) = by-year (lt-trans (x .year) (y .year) (z .year) a b)
 before-trans x y z (by-year a) (by-month e b) = by-year (ap (ltZ (x .year)) (sym e) ∙ a)
 before-trans x y z (by-year a) (by-day e f b) = by-year (ap (ltZ (x .year)) (sym e) ∙ a)
@@ -78,7 +78,7 @@ before-trans x y z (by-day e f a) (by-year b) = by-year (ap (λ (w : ℤ). ltZ w
 before-trans x y z (by-day e f a) (by-month g b) = by-month (e ∙ g) (omega arith)
 before-trans x y z (by-day e f a) (by-day g h b) = by-day (e ∙ g) (f ∙ h) (omega arith)
 
-not-before : (x : Date) → Before x x → ⊥
+pub not-before : (x : Date) → Before x x → ⊥
 not-before x (by-year h) = true≢false (sym h ∙ lt-irrefl (x .year))
 not-before x (by-month e h) = omega arith
 not-before x (by-day e f h) = omega arith

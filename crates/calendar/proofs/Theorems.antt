@@ -27,11 +27,11 @@ use Rattle.calendar.proofs.Counting.{numbered}
 use Rattle.calendar.proofs.Numbering.{number-is}
 
 -- the count of a year from -10000
-record Count (z : Bool) (y : ℤ) : Type 0 where
-  count : ℕ
-  is : yearAt z count ≡ y
+pub record Count (z : Bool) (y : ℤ) : Type 0 where
+  pub count : ℕ
+  pub is : yearAt z count ≡ y
 
-count-of : (z : Bool) (y : ℤ) → inYears y ≡ true → (not z && isYear 0 y) ≡ false → Count z y
+pub count-of : (z : Bool) (y : ℤ) → inYears y ≡ true → (not z && isYear 0 y) ≡ false → Count z y
 count-of true (pos n) h g = record { count = n + 10000; is = sub-high (n + 10000) 10000 (omega arith) ∙ ap pos (omega arith) }
 count-of true (negsuc n) h g =
     let l = leb-true n 9998 (and-parts (leb n 9998) true h .0) in

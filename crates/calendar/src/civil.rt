@@ -10,7 +10,7 @@ use crate::place;
 use crate::rule::Rule;
 
 // The name of year y, in a calendar with or without a year 0.
-fn year_name(zero: bool, y: u64) -> i64
+pub fn year_name(zero: bool, y: u64) -> i64
     requires { ⌜ y < 2 ^ 31 ⌝ }
     ensures { λ r. ⌜ r ≡ yearAt zero y ⌝ }
 {

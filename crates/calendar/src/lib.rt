@@ -9,9 +9,9 @@ ghost use Rattle.calendar.specs.Calendar.{hasYearZero, inYears, dateOf};
 ghost use Rattle.calendar.specs.Closed.{base, first, end, Counted};
 use refusal::Refusal;
 
-mod civil;
+pub mod civil;
 mod month;
-mod ordinal;
+pub mod ordinal;
 mod place;
 mod rule;
 
@@ -130,7 +130,7 @@ pub fn date_of_day(c: Calendar, n: i64) -> DateAnswer
     return DateAnswer::Refused(Refusal::OutOfRange);
 }
 
-fn has_year_zero(c: Calendar) -> bool
+pub fn has_year_zero(c: Calendar) -> bool
     ensures { λ r. ⌜ r ≡ hasYearZero c ⌝ }
 {
     match c {
@@ -144,13 +144,13 @@ fn has_year_zero(c: Calendar) -> bool
 }
 
 // A year as a count from -10000, or that the calendar has no such year.
-enum YearCount {
+pub enum YearCount {
     Is(u64),
     Missing,
 }
 
 // The count of the year k - 2^63, with or without a year 0.
-fn year_count(zero: bool, k: u64) -> YearCount
+pub fn year_count(zero: bool, k: u64) -> YearCount
     requires { ⌜ (9223372036854765809 ≤ k) × (k ≤ 9223372036854785807) ⌝ }
     ensures { λ r. ⌜ Counted zero (lower k) r ⌝ }
 {

@@ -1,0 +1,9 @@
+pub mod Steps
+pub mod Order
+pub mod Days
+pub mod Existing
+pub mod Counts
+pub mod Searching
+pub mod Answering
+pub mod Theorems
+pub mod Cases
