@@ -16,11 +16,11 @@ use Rattle.calendar.specs.declared.DateAnswer.{DateAnswer}
 use Rattle.calendar.specs.declared.DayAnswer.{DayAnswer}
 use Rattle.calendar.proofs.Answering.{date-there}
 use Rattle.calendar.proofs.Theorems.{dates-exist}
-use Rattle.instant.specs.Instant.{dayOf, timeOf, inRange, fieldsAt, withTime, fieldsAnswer, dateIn, isClock, clockTime, withClock, pickInstant}
+use Rattle.instant.specs.Instant.{dayOf, timeOf, inRange, fieldsAt, withTime, fieldsAnswer, dateIn, isClock, clockTime, withClock, pickInstant, instantAnswer}
 use Rattle.instant.specs.declared.Fields.{Fields}
 use Rattle.instant.specs.declared.FieldsAnswer.{FieldsAnswer}
 use Rattle.instant.specs.declared.InstantAnswer.{InstantAnswer}
-use Rattle.instant.proofs.Theorems.{shown, time-of-fields}
+use Rattle.instant.proofs.Theorems.{shown, time-of-fields, clock-of-time, time-small}
 use Rattle.double.specs.declared.Reading.{Reading}
 use Rattle.step.specs.Answers.{within, dateFrom}
 use Rattle.step.specs.declared.StepAnswer.{StepAnswer}
@@ -32,9 +32,17 @@ abbrev pub instantReading : InstantAnswer → Reading
 instantReading (InstantAnswer.Is t) = Reading.At t true
 instantReading (InstantAnswer.Refused r) = Reading.Refused r
 
-pub clock-reading : (a : DayAnswer) (f : Fields) → isClock f ≡ true → instantReading (withClock a f) ≡ onDay a (clockTime f)
+-- the date d at the time of day of f
+abbrev pub clocked : Date → Fields → Fields
+clocked d f = record { year = d .year; month = d .month; day = d .day; hour = f .hour; minute = f .minute; second = f .second; microsecond = f .microsecond }
+
+clock-reading : (a : DayAnswer) (f : Fields) → isClock f ≡ true → instantReading (withClock a f) ≡ onDay a (clockTime f)
 clock-reading (DayAnswer.Is n) f h = ap (λ (b : Bool). instantReading (pickInstant b (InstantAnswer.Is (n *ℤ pos 86400000000 +ℤ pos (clockTime f))) (InstantAnswer.Refused NoSuchDate))) h
 clock-reading (DayAnswer.Refused r) f h = refl
+
+pub on-date : (c : Calendar) (d : Date) (f : Fields) (a : InstantAnswer) → isClock f ≡ true → a ≡ instantAnswer c (clocked d f) → instantReading a ≡ onDay (dayAnswer c d) (clockTime f)
+unfolding instantAnswer
+on-date c d f a h e = ap instantReading e ∙ clock-reading (dayAnswer c d) (clocked d f) h
 
 -- a date that is refused for its year has no day number either
 within-years : (c : Calendar) (d : Date) (s : ℕ) → onDate c (within d) s ≡ onDay (dayAnswer c d) s
@@ -65,6 +73,9 @@ module _ (c : Calendar) (t : ℤ) where
 
     pub shown-date : dateIn f ≡ dateAt c t
     shown-date = ap dateIn (sym (shown c t f h .is))
+
+    pub shown-clock : isClock f ≡ true
+    shown-clock = ap isClock (sym (shown c t f h .is)) ∙ clock-of-time (dateAt c t) (timeOf t) (time-small t)
 
     pub shown-time : clockTime f ≡ timeOf t
     shown-time = ap clockTime (sym (shown c t f h .is)) ∙ time-of-fields (dateAt c t) (timeOf t)
