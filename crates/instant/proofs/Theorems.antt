@@ -68,10 +68,10 @@ day-and-time (negsuc n) =
 -- ---- the fields of a time of day
 
 -- a time of day is that of its fields
-time-of-fields : (d : Date) (s : ℕ) → clockTime (fieldsAt d s) ≡ s
+pub time-of-fields : (d : Date) (s : ℕ) → clockTime (fieldsAt d s) ≡ s
 time-of-fields d s = omega arith
 
-clock-of-time : (d : Date) (s : ℕ) → s < 86400000000 → isClock (fieldsAt d s) ≡ true
+pub clock-of-time : (d : Date) (s : ℕ) → s < 86400000000 → isClock (fieldsAt d s) ≡ true
 clock-of-time d s h = rw (lt-ltb (s / 3600000000) 24 (omega arith), lt-ltb (s / 60000000 % 60) 60 (omega arith), lt-ltb (s / 1000000 % 60) 60 (omega arith), lt-ltb (s % 1000000) 1000000 (omega arith))
 
 -- and fields are those of their time of day
@@ -90,7 +90,7 @@ fields-of-time f c =
 
 -- the fields of an instant in range
 module _ (c : Calendar) (t : ℤ) where
-  fields-in : inRange c t ≡ true → fieldsAnswer c t ≡ FieldsAnswer.Is (fieldsAt (dateOf c (dayOf t)) (timeOf t))
+  pub fields-in : inRange c t ≡ true → fieldsAnswer c t ≡ FieldsAnswer.Is (fieldsAt (dateOf c (dayOf t)) (timeOf t))
   unfolding fieldsAnswer
   fields-in h = ap (λ (a : DateAnswer). withTime a (timeOf t)) (sym (in-range c (dayOf t) h))
 

@@ -83,7 +83,7 @@ fn is_clock(f: Fields) -> bool
 }
 
 // The time of day of fields, in microseconds.
-fn clock_time(f: Fields) -> u64
+pub fn clock_time(f: Fields) -> u64
     ensures { λ s. ⌜ s ≡ clockTime f ⌝ }
 {
     (((f.hour as u64) * 60 + (f.minute as u64)) * 60 + (f.second as u64)) * 1000000

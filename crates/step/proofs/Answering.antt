@@ -148,19 +148,25 @@ module _ (c : Calendar) (x : Date) (r : Refusal) (h : dayAnswer c x ≡ DayAnswe
 -- ---- the number of steps between two dates
 
 -- where only b - a can lead to d
-module _ (F : ℤ → Date) (one : (z w : ℤ) → F z ≡ F w → z ≡ w) (d : Date) (a b : ℕ) (p : a < 240000) (q : b < 240000) (only : (n : ℤ) → F n ≡ d → n ≡ subℕ b a) where
-  pub number-there : F (subℕ b a) ≡ d → numberAt F d ≡ StepAnswer.Is (subℕ b a)
-  number-there e =
-      let s : subℕ (b + 240000 - a) 240000 ≡ subℕ b a = same-diff (b + 240000 - a) 240000 b a (omega arith) in
-      found-at F d one (b + 240000 - a) (omega arith) (ap F s ∙ e) ∙ ap StepAnswer.Is s
+record Sought (F : ℤ → Date) (d : Date) (a b : ℕ) : Type 0 where
+  found : F (subℕ b a) ≡ d → numberAt F d ≡ StepAnswer.Is (subℕ b a)
+  none : (F (subℕ b a) ≡ d → ⊥) → numberAt F d ≡ StepAnswer.Nothing
+  number : (n : ℤ) → F n ≡ d → numberAt F d ≡ StepAnswer.Is n
 
-  pub number-none : (F (subℕ b a) ≡ d → ⊥) → numberAt F d ≡ StepAnswer.Nothing
-  number-none f = found-none F d (λ n e. f (ap F (sym (only n e)) ∙ e))
+sought : (F : ℤ → Date) (one : (z w : ℤ) → F z ≡ F w → z ≡ w) (d : Date) (a b : ℕ) → a < 240000 → b < 240000 → ((n : ℤ) → F n ≡ d → n ≡ subℕ b a) → Sought F d a b
+sought F one d a b p q only =
+    record {
+      found = found;
+      none = λ f. found-none F d (λ n e. f (ap F (sym (only n e)) ∙ e));
+      number = λ n e. found (ap F (sym (only n e)) ∙ e) ∙ ap StepAnswer.Is (sym (only n e));
+    }
+  where
+    found : F (subℕ b a) ≡ d → numberAt F d ≡ StepAnswer.Is (subℕ b a)
+    found e =
+        let s : subℕ (b + 240000 - a) 240000 ≡ subℕ b a = same-diff (b + 240000 - a) 240000 b a (omega arith) in
+        found-at F d one (b + 240000 - a) (omega arith) (ap F s ∙ e) ∙ ap StepAnswer.Is s
 
-  pub number-of : (n : ℤ) → F n ≡ d → numberAt F d ≡ StepAnswer.Is n
-  number-of n e = number-there (ap F (sym (only n e)) ∙ e) ∙ ap StepAnswer.Is (sym (only n e))
-
--- the day of x, moved to the month of d, in year w
+-- the day of x, moved to the month of d, of year w
 abbrev pub keptDay : Calendar → Date → Date → ℕ → ℕ
 keptDay c x d w = downTo c (yearAt (hasYearZero c) w) (d .month) (x .day)
 
@@ -183,22 +189,19 @@ module _ (c : Calendar) (x d : Date) (y w : ℕ) (g : Begun c x y) (h : Begun c 
   unfolding monthsAfter
   months-date = ap (λ (p : YearMonth). dateIn c p (x .day)) months-lead ∙ date-eq refl refl (ap (λ (u : ℤ). downTo c u (d .month) (x .day)) (sym (h .year)))
 
+  months-sought : Sought (λ (z : ℤ). monthsAfter c z x) d (monthCount x y) (monthCount d w)
+  months-sought = sought (λ (z : ℤ). monthsAfter c z x) (one-number (λ (z : ℤ). monthsAfter c z x) (months-before c x)) d (monthCount x y) (monthCount d w) (count-small c x y g) (count-small c d w h) months-only
+
+  pub months-found : (n : ℤ) → monthsAfter c n x ≡ d → numberAt (λ (z : ℤ). monthsAfter c z x) d ≡ StepAnswer.Is n
+  months-found = months-sought .number
+
   pub months-is : keptDay c x d w ≡ d .day → StepAnswer.Is (subℕ (monthCount d w) (monthCount x y)) ≡ monthsBetween c x d
   unfolding monthsBetween
-  months-is e =
-      let F : ℤ → Date = λ z. monthsAfter c z x in
-      let n : numberAt F d ≡ StepAnswer.Is (subℕ (monthCount d w) (monthCount x y)) = number-there F (one-number F (months-before c x)) d (monthCount x y) (monthCount d w) (count-small c x y g) (count-small c d w h) months-only (months-date ∙ date-eq refl refl e) in
-      sym n ∙ both-there (numberAt F d)
+  months-is e = sym (months-sought .found (months-date ∙ date-eq refl refl e)) ∙ both-there (numberAt (λ (z : ℤ). monthsAfter c z x) d)
 
   pub months-none : (keptDay c x d w ≡ d .day → ⊥) → StepAnswer.Nothing ≡ monthsBetween c x d
   unfolding monthsBetween
-  months-none f =
-      let F : ℤ → Date = λ z. monthsAfter c z x in
-      let n : numberAt F d ≡ StepAnswer.Nothing = number-none F (one-number F (months-before c x)) d (monthCount x y) (monthCount d w) (count-small c x y g) (count-small c d w h) months-only (λ e. f (ap (λ (u : Date). u .day) (sym months-date ∙ e))) in
-      sym n ∙ both-there (numberAt F d)
-
-  pub months-found : (n : ℤ) → monthsAfter c n x ≡ d → numberAt (λ (z : ℤ). monthsAfter c z x) d ≡ StepAnswer.Is n
-  months-found = number-of (λ (z : ℤ). monthsAfter c z x) (one-number (λ (z : ℤ). monthsAfter c z x) (months-before c x)) d (monthCount x y) (monthCount d w) (count-small c x y g) (count-small c d w h) months-only
+  months-none f = sym (months-sought .none (λ e. f (ap (λ (u : Date). u .day) (sym months-date ∙ e)))) ∙ both-there (numberAt (λ (z : ℤ). monthsAfter c z x) d)
 
   -- ---- years
 
@@ -211,27 +214,22 @@ module _ (c : Calendar) (x d : Date) (y w : ℕ) (g : Begun c x y) (h : Begun c 
       one-number (λ (z : ℤ). date (yearsOn c z (x .year)) 1 1) (λ z u l. by-year (years-rise c (x .year) z u l)) n (subℕ w y)
       (date-eq (ap (λ (u : Date). u .year) e ∙ sym years-lead) refl refl)
 
-  years-date : yearsAfter c (subℕ w y) x ≡ date (d .year) (x .month) (downTo c (d .year) (x .month) (x .day))
+  years-date : yearsAfter c (subℕ w y) x ≡ date (d .year) (x .month) (keptDay c x x w)
   unfolding yearsAfter
-  years-date = ap (λ (u : ℤ). dateIn c (yearMonth u (x .month)) (x .day)) years-lead
+  years-date = ap (λ (u : ℤ). dateIn c (yearMonth u (x .month)) (x .day)) years-lead ∙ date-eq refl refl (ap (λ (u : ℤ). downTo c u (x .month) (x .day)) (sym (h .year)))
 
-  -- the day of x in year w, where the months are the same
-  kept-same : d .month ≡ x .month → downTo c (d .year) (x .month) (x .day) ≡ keptDay c x d w
-  kept-same m = λ i. downTo c (sym (h .year) i) (sym m i) (x .day)
-
-  pub years-is : d .month ≡ x .month → keptDay c x d w ≡ d .day → StepAnswer.Is (subℕ w y) ≡ yearsBetween c x d
-  unfolding yearsBetween
-  years-is m e =
-      let F : ℤ → Date = λ z. yearsAfter c z x in
-      let n : numberAt F d ≡ StepAnswer.Is (subℕ w y) = number-there F (one-number F (years-before c x)) d y w (omega (arith, year-small c x y g)) (omega (arith, year-small c d w h)) years-only (years-date ∙ date-eq refl (sym m) (kept-same m ∙ e)) in
-      sym n ∙ both-there (numberAt F d)
-
-  pub years-none : (d .month ≡ x .month → keptDay c x d w ≡ d .day → ⊥) → StepAnswer.Nothing ≡ yearsBetween c x d
-  unfolding yearsBetween
-  years-none f =
-      let F : ℤ → Date = λ z. yearsAfter c z x in
-      let n : numberAt F d ≡ StepAnswer.Nothing = number-none F (one-number F (years-before c x)) d y w (omega (arith, year-small c x y g)) (omega (arith, year-small c d w h)) years-only (λ e. let m = sym (ap (λ (u : Date). u .month) (sym years-date ∙ e)) in f m (sym (kept-same m) ∙ ap (λ (u : Date). u .day) (sym years-date ∙ e))) in
-      sym n ∙ both-there (numberAt F d)
+  years-sought : Sought (λ (z : ℤ). yearsAfter c z x) d y w
+  years-sought = sought (λ (z : ℤ). yearsAfter c z x) (one-number (λ (z : ℤ). yearsAfter c z x) (years-before c x)) d y w (omega (arith, year-small c x y g)) (omega (arith, year-small c d w h)) years-only
 
   pub years-found : (n : ℤ) → yearsAfter c n x ≡ d → numberAt (λ (z : ℤ). yearsAfter c z x) d ≡ StepAnswer.Is n
-  years-found = number-of (λ (z : ℤ). yearsAfter c z x) (one-number (λ (z : ℤ). yearsAfter c z x) (years-before c x)) d y w (omega (arith, year-small c x y g)) (omega (arith, year-small c d w h)) years-only
+  years-found = years-sought .number
+
+  pub years-is : d .month ≡ x .month → keptDay c x x w ≡ d .day → StepAnswer.Is (subℕ w y) ≡ yearsBetween c x d
+  unfolding yearsBetween
+  years-is m e = sym (years-sought .found (years-date ∙ date-eq refl (sym m) e)) ∙ both-there (numberAt (λ (z : ℤ). yearsAfter c z x) d)
+
+  pub years-none : (d .month ≡ x .month → keptDay c x x w ≡ d .day → ⊥) → StepAnswer.Nothing ≡ yearsBetween c x d
+  unfolding yearsBetween
+  years-none f =
+      sym (years-sought .none (λ e. let u = sym years-date ∙ e in f (sym (ap (λ (v : Date). v .month) u)) (ap (λ (v : Date). v .day) u)))
+      ∙ both-there (numberAt (λ (z : ℤ). yearsAfter c z x) d)

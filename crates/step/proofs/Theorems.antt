@@ -13,7 +13,6 @@ use Rattle.calendar.specs.declared.Calendar.{Calendar}
 use Rattle.calendar.specs.declared.Date.{Date}
 use Rattle.calendar.specs.declared.DayAnswer.{DayAnswer}
 use Rattle.calendar.proofs.Existing.{date-eq}
-use Rattle.calendar.proofs.Theorems.{answered}
 use Rattle.step.specs.Answers.{numberAt, stepFrom, monthsBetween, yearsBetween}
 use Rattle.step.specs.Closed.{monthAt}
 use Rattle.step.specs.Months.{steps, monthsOn, yearsOn, monthsAfter, yearsAfter}
@@ -95,8 +94,8 @@ module _ (c : Calendar) (x d : Date) where
 
   -- both dates exist in the years -9999 to 9999
   module _ (x-inside : inYears (x .year) ≡ true) (x-there : exists c x ≡ true) (d-inside : inYears (d .year) ≡ true) (d-there : exists c d ≡ true) where
-    answered-as : (s : StepAnswer) → s ≡ stepFrom (dayAnswer c x) (dayAnswer c d) s
-    answered-as =
+    not-refused : (s : StepAnswer) → s ≡ stepFrom (dayAnswer c x) (dayAnswer c d) s
+    not-refused =
         let a = beginning c x x-inside x-there in
         let b = beginning c d d-inside d-there in
         both-there c x d (a .year) (b .year) (a .is) (b .is)
@@ -107,14 +106,14 @@ module _ (c : Calendar) (x d : Date) where
     is-months-between n e =
         let a = beginning c x x-inside x-there in
         let b = beginning c d d-inside d-there in
-        sym (answered-as (numberAt (λ (z : ℤ). monthsAfter c z x) d)) ∙ months-found c x d (a .year) (b .year) (a .is) (b .is) n e
+        sym (not-refused (numberAt (λ (z : ℤ). monthsAfter c z x) d)) ∙ months-found c x d (a .year) (b .year) (a .is) (b .is) n e
 
     pub is-years-between : (n : ℤ) → yearsAfter c n x ≡ d → yearsBetween c x d ≡ StepAnswer.Is n
     unfolding yearsBetween
     is-years-between n e =
         let a = beginning c x x-inside x-there in
         let b = beginning c d d-inside d-there in
-        sym (answered-as (numberAt (λ (z : ℤ). yearsAfter c z x) d)) ∙ years-found c x d (a .year) (b .year) (a .is) (b .is) n e
+        sym (not-refused (numberAt (λ (z : ℤ). yearsAfter c z x) d)) ∙ years-found c x d (a .year) (b .year) (a .is) (b .is) n e
 
     -- `Nothing` exactly where no integer leads to d
     pub months-between-nothing : monthsBetween c x d ≡ StepAnswer.Nothing → (n : ℤ) → monthsAfter c n x ≡ d → ⊥
@@ -125,8 +124,8 @@ module _ (c : Calendar) (x d : Date) where
 
     pub nothing-months-between : ((n : ℤ) → monthsAfter c n x ≡ d → ⊥) → monthsBetween c x d ≡ StepAnswer.Nothing
     unfolding monthsBetween
-    nothing-months-between f = sym (answered-as (numberAt (λ (z : ℤ). monthsAfter c z x) d)) ∙ found-none (λ (z : ℤ). monthsAfter c z x) d f
+    nothing-months-between f = sym (not-refused (numberAt (λ (z : ℤ). monthsAfter c z x) d)) ∙ found-none (λ (z : ℤ). monthsAfter c z x) d f
 
     pub nothing-years-between : ((n : ℤ) → yearsAfter c n x ≡ d → ⊥) → yearsBetween c x d ≡ StepAnswer.Nothing
     unfolding yearsBetween
-    nothing-years-between f = sym (answered-as (numberAt (λ (z : ℤ). yearsAfter c z x) d)) ∙ found-none (λ (z : ℤ). yearsAfter c z x) d f
+    nothing-years-between f = sym (not-refused (numberAt (λ (z : ℤ). yearsAfter c z x) d)) ∙ found-none (λ (z : ℤ). yearsAfter c z x) d f

@@ -168,7 +168,7 @@ pub fn years_between(c: Calendar, x: Date, d: Date) -> StepAnswer
                 if d.month != x.month {
                     return StepAnswer::Nothing;
                 }
-                if day_down(c, z, d.month, x.day) != d.day {
+                if day_down(c, z, x.month, x.day) != d.day {
                     return StepAnswer::Nothing;
                 }
                 return StepAnswer::Is(difference(z, y));

@@ -1,0 +1,3 @@
+pub mod Fixed
+pub mod Demands
+pub mod Closed

@@ -1,0 +1,148 @@
+// Offsets on an axis of fixed mode: a whole offset or a double read as an instant, and an instant written as a whole offset. All calls
+// are total. A reader may rely on specs/Fixed.antt and on the theorems of proofs/Demands.antt.
+ghost use mathlib.Core.Path.{_≡_};
+ghost use mathlib.Core.Bool.{true};
+ghost use lib.IntN.{_-ℤ_};
+ghost use Rattle.signed.specs.Bias.{lower};
+ghost use Rattle.period.specs.Lengths.{lengthOf};
+ghost use Rattle.instant.specs.Instant.{inRange};
+ghost use Rattle.fixed_axis.specs.Fixed.{timeAfter, readingAt, readWhole, readDouble, inPeriods, writeInstant};
+ghost use Rattle.fixed_axis.specs.Closed.{firstInstant, lastInstant, reachOf};
+use calendar::Calendar;
+use double::Reading;
+use period::Period;
+use refusal::Refusal;
+
+// The whole offset of an instant.
+pub enum OffsetAnswer {
+    Is(i64),
+    Refused(Refusal),
+}
+
+// The first microsecond of year -9999, raised by 2^63.
+fn first_instant(c: Calendar) -> u64
+    ensures { λ k. ⌜ k ≡ firstInstant c ⌝ }
+{
+    match c {
+        Calendar::Standard => return 0x8000_0000_0000_0000 - 377_680_233_600_000_000,
+        Calendar::ProlepticGregorian => return 0x8000_0000_0000_0000 - 377_705_116_800_000_000,
+        Calendar::Julian => return 0x8000_0000_0000_0000 - 377_712_892_800_000_000,
+        Calendar::NoLeap => return 0x8000_0000_0000_0000 - 377_454_384_000_000_000,
+        Calendar::AllLeap => return 0x8000_0000_0000_0000 - 378_488_505_600_000_000,
+        Calendar::Day360 => return 0x8000_0000_0000_0000 - 372_283_776_000_000_000,
+    }
+}
+
+// The last microsecond of year 9999, raised by 2^63.
+fn last_instant(c: Calendar) -> u64
+    ensures { λ k. ⌜ k ≡ lastInstant c ⌝ }
+{
+    match c {
+        Calendar::Standard => return 0x8000_0000_0000_0000 + 253_402_300_799_999_999,
+        Calendar::ProlepticGregorian => return 0x8000_0000_0000_0000 + 253_402_300_799_999_999,
+        Calendar::Julian => return 0x8000_0000_0000_0000 + 253_407_484_799_999_999,
+        Calendar::NoLeap => return 0x8000_0000_0000_0000 + 253_234_079_999_999_999,
+        Calendar::AllLeap => return 0x8000_0000_0000_0000 + 253_927_871_999_999_999,
+        Calendar::Day360 => return 0x8000_0000_0000_0000 + 249_765_119_999_999_999,
+    }
+}
+
+// Whether the instant k - 2^63 lies in the years -9999 to 9999.
+pub fn in_range(c: Calendar, k: u64) -> bool
+    ensures { λ b. ⌜ b ≡ inRange c (lower k) ⌝ }
+{
+    if k < first_instant(c) {
+        return false;
+    }
+    return k <= last_instant(c);
+}
+
+// So many periods lead out of the range from each of its instants.
+fn reach(p: Period) -> u64
+    ensures { λ r. ⌜ r ≡ reachOf p ⌝ }
+{
+    match p {
+        Period::Second => return 2_305_843_009_213,
+        Period::Millisecond => return 2_305_843_009_213_693,
+        Period::Minute => return 38_430_716_820,
+        Period::Hour => return 640_511_947,
+        Period::Day => return 26_687_997,
+        Period::Week => return 3_812_571,
+        Period::Month => return 876_831,
+        Period::Year => return 73_069,
+    }
+}
+
+// The reading of the offset k - 2^63 from the reference r - 2^63.
+fn read_biased(c: Calendar, p: Period, r: u64, k: u64) -> Reading
+    requires { ⌜ inRange c (lower r) ≡ true ⌝ }
+    ensures { λ a. ⌜ a ≡ readingAt c (timeAfter p (lower r) (lower k)) true ⌝ }
+{
+    let most = reach(p);
+    if k < 0x8000_0000_0000_0000 - most {
+        return Reading::Refused(Refusal::OutOfRange);
+    }
+    if 0x8000_0000_0000_0000 + most <= k {
+        return Reading::Refused(Refusal::OutOfRange);
+    }
+    let micros = period::microseconds(p);
+    let at = r + (k - (0x8000_0000_0000_0000 - most)) * micros - most * micros;
+    if in_range(c, at) {
+        return Reading::At(signed::unbiased(at), true);
+    }
+    return Reading::Refused(Refusal::OutOfRange);
+}
+
+// A whole offset; OutOfRange for the reference, then for the instant.
+pub fn read_whole(c: Calendar, p: Period, reference: i64, n: i64) -> Reading
+    ensures { λ a. ⌜ a ≡ readWhole c p reference n ⌝ }
+{
+    let r = signed::biased(reference);
+    if in_range(c, r) {
+        return read_biased(c, p, r, signed::biased(n));
+    }
+    return Reading::Refused(Refusal::OutOfRange);
+}
+
+// A double; OutOfRange for the reference, then NotFinite, then OutOfRange for the nearest count.
+pub fn read_double(c: Calendar, p: Period, reference: i64, x: f64) -> Reading
+    ensures { λ a. ⌜ a ≡ readDouble c p reference x ⌝ }
+{
+    let first = signed::unbiased(first_instant(c));
+    let last = signed::unbiased(last_instant(c));
+    double::read_double(first, last, reference, period::microseconds(p), x)
+}
+
+// The displacement of the instant k - 2^63 from the reference r - 2^63, in periods; Inexact where something is left over.
+fn periods_between(p: Period, r: u64, k: u64) -> OffsetAnswer
+    ensures { λ a. ⌜ a ≡ inPeriods (lower k -ℤ lower r) (lengthOf p) ⌝ }
+{
+    let micros = period::microseconds(p);
+    if k < r {
+        let before = r - k;
+        if before % micros == 0 {
+            return OffsetAnswer::Is(signed::unbiased(0x8000_0000_0000_0000 - before / micros));
+        }
+        return OffsetAnswer::Refused(Refusal::Inexact);
+    }
+    let after = k - r;
+    if after % micros == 0 {
+        return OffsetAnswer::Is(signed::unbiased(0x8000_0000_0000_0000 + after / micros));
+    }
+    return OffsetAnswer::Refused(Refusal::Inexact);
+}
+
+// The whole offset that reads as an instant; OutOfRange for the reference or the instant, then Inexact where there is none.
+pub fn write_instant(c: Calendar, p: Period, reference: i64, t: i64) -> OffsetAnswer
+    ensures { λ a. ⌜ a ≡ writeInstant c p reference t ⌝ }
+{
+    let from = signed::biased(reference);
+    if in_range(c, from) {
+        let to = signed::biased(t);
+        if in_range(c, to) {
+            return periods_between(p, from, to);
+        }
+        return OffsetAnswer::Refused(Refusal::OutOfRange);
+    }
+    return OffsetAnswer::Refused(Refusal::OutOfRange);
+}
