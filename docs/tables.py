@@ -95,6 +95,15 @@ def missing_files(text):
     return [name for name in named if not (CRATES / name.removeprefix("crates/")).is_file()]
 
 
+def wrong_arrows(text, crates):
+    """The arrows of the picture that crates.txt does not have. A crate that is not listed yet has none."""
+    for line in re.findall(r"(?s)```text\n(.*?)```", text)[0].splitlines():
+        for chain in re.split(r"\s{2,}", line):
+            ends = [part.split(", ") for part in chain.split(" → ")]
+            for lefts, rights in zip(ends, ends[1:]):
+                yield from (f"{a} → {b}" for a in lefts for b in rights if a in crates and b in crates and b not in crates[a])
+
+
 def main():
     crates = listed()
     is_check = sys.argv[1:] == ["--check"]
@@ -108,6 +117,8 @@ def main():
             path.write_text(text)
         for file in missing_files(text):
             print(f"docs/{name}.md: no such file: {file}")
+        for arrow in wrong_arrows(text, crates) if name == "ARCHITECTURE" else []:
+            print(f"docs/{name}.md: no such arrow in crates.txt: {arrow}")
 
 
 main()

@@ -16,6 +16,17 @@ fn axis(calendar: Calendar, period: Period, mode: Mode, reference: i64) -> Axis 
     Axis { calendar, period, mode, reference }
 }
 
+/// The rows of README.md's table of refusals.
+#[test]
+fn words() {
+    use Refusal::*;
+    let readme = include_str!("../../../README.md");
+    for refusal in [TextTooLong, UnknownCalendar, IllFormed, NoSuchDate, OutOfRange, Inexact, NoRoom, NotFinite] {
+        let row = format!("\n| {} | {} |\n", refusal.number(), refusal.words());
+        assert!(readme.contains(&row), "{refusal}");
+    }
+}
+
 #[test]
 fn days() {
     if !are_exported(&["date_of_day", "day_of_date"]) {
