@@ -5,6 +5,7 @@ import datetime
 import unittest
 
 from uppinalo import Axis, Refused, fields_of, write_iso
+from uppinalo._runs import lendable
 
 from .calls import needs
 
@@ -54,11 +55,24 @@ class Arrays(unittest.TestCase):
         for offsets in (whole.T, whole[::2, ::-1], numpy.asfortranarray(whole), packed["b"], odd):
             numpy.testing.assert_array_equal(days().read_run(offsets).instants, (offsets * DAY).astype(int))
 
+    def test_arrays_are_not_copied(self):
+        for offsets in (numpy.arange(5.0), numpy.arange(5), numpy.arange(6.0).reshape(2, 3)):
+            self.assertIs(lendable(offsets), offsets)
+
     @needs(*BOTH)
-    def test_read_only_arrays_are_not_copied(self):
+    def test_read_only_arrays(self):
         offsets = numpy.arange(5.0)
         offsets.flags.writeable = False
+        self.assertIs(lendable(offsets), offsets)
         self.assertEqual(days().read_run(offsets).instants.tolist(), [n * DAY for n in range(5)])
+
+    @needs(*BOTH)
+    def test_what_holds_an_array(self):
+        class Series:
+            def __array__(self, dtype=None, copy=None):
+                return numpy.arange(3.0)
+
+        self.assertEqual(days().read_run(Series()).instants.tolist(), [0, DAY, 2 * DAY])
 
     @needs(*BOTH)
     def test_places_of_refusals(self):

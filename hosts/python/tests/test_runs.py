@@ -5,6 +5,7 @@ import math
 import unittest
 
 from uppinalo import Axis, Refused
+from uppinalo._runs import lendable
 
 from .calls import needs
 
@@ -35,6 +36,13 @@ class Sources(unittest.TestCase):
         ):
             run = days().read_run(source)
             self.assertEqual((run.instants, run.rounded, len(run)), (expected, 0, 3), source)
+
+    def test_arrays_are_not_copied(self):
+        for kind in "dq":
+            offsets = array.array(kind, [1, 2])
+            self.assertIs(lendable(offsets), offsets)
+            view = memoryview(offsets)
+            self.assertIs(lendable(view), view)
 
     @needs(*BOTH)
     def test_a_read_only_source(self):

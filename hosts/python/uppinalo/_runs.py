@@ -44,10 +44,10 @@ class Run:
 
 def lendable(offsets: Offsets) -> Any:
     """The offsets as a NumPy array, an array or a memoryview whose memory holds them as doubles or as signed 64-bit numbers.
-    What is already so is not copied."""
+    What is already so is not copied. Series of pandas and arrays of xarray count as the NumPy arrays that they hold."""
     numpy = sys.modules.get("numpy")
-    if numpy is not None and isinstance(offsets, numpy.ndarray):
-        return _from_numpy(numpy, offsets)
+    if numpy is not None and hasattr(offsets, "__array__"):
+        return _from_numpy(numpy, numpy.asanyarray(offsets))
     if isinstance(offsets, (str, bytes, bytearray)):
         raise TypeError(f"offsets must be numbers, not {type(offsets).__name__}")
     if isinstance(offsets, (array.array, memoryview)) and _is_lendable(memoryview(offsets)):
