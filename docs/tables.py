@@ -4,8 +4,8 @@
     make docs                  writes them
     docs/tables.py --check     says which are not current, and changes nothing
 
-What a reader must believe is found by following imports: from the contracts of the crate `uppinalo` and of the programs over it to the
-files of specs/ that they cite, and from those on.
+What a reader must believe is found by following imports: from the contracts of the crate `uppinalo` and of the programs over it
+to the files of specs/ that they cite, and from those on.
 """
 import pathlib
 import re
@@ -70,13 +70,15 @@ def names(paths):
 def trust(crates):
     needed = believed(crates)
     assert all("specs" in path.parts for path in needed), "a promise cites a file of proofs/"
-    rows = [[f"`{path.relative_to(CRATES)}`", first_sentence(path, "--")] for crate in crates for path in specs_of(crate) if path in needed]
-    rest = [path for crate in crates for path in specs_of(crate) if path not in needed]
+    specs = [path for crate in crates for path in specs_of(crate)]
+    rows = [[f"`{path.relative_to(CRATES)}`", first_sentence(path, "--")] for path in specs if path in needed]
+    rest = [path for path in specs if path not in needed]
     kit = sorted({module for path in needed for module in KIT.findall(path.read_text())})
     return (
         table(["file", "what it says"], rows)
         + f"\nThey use these modules of the kit: {', '.join(f'`{module}`' for module in kit)}.\n"
-        + f"\nNo promise at the top rests on the other files of `specs/`, which are closed forms, steps of proofs, and what theorems speak of: {names(rest)}.\n"
+        + "\nNo promise at the top rests on the other files of `specs/`, which are closed forms, steps of proofs, and what theorems "
+        + f"speak of: {names(rest)}.\n"
     )
 
 

@@ -1,5 +1,5 @@
-"""The other readers of time axes. `read` takes units, a calendar and offsets and answers in the reader's own form; `fields` shows that as
-year, month, day, hour, minute, second and microsecond. An axis that a reader does not take is the exception NotTaken."""
+"""The other readers of time axes. `read` takes units, a calendar and offsets and answers in the reader's own form; `fields` shows
+that as year, month, day, hour, minute, second and microsecond. An axis that a reader does not take is the exception NotTaken."""
 import ctypes
 import re
 import warnings

@@ -33,8 +33,8 @@ def cell(counts):
 
 
 def versions():
-    asked = subprocess.run(["dpkg-query", "-W", "-f", "${Package} ${Version}, ", *PACKAGES], capture_output=True, text=True, check=True)
-    return asked.stdout.rstrip(", ")
+    query = ["dpkg-query", "-W", "-f", "${Package} ${Version}, ", *PACKAGES]
+    return subprocess.run(query, capture_output=True, text=True, check=True).stdout.rstrip(", ")
 
 
 def agreements(cases):
@@ -75,7 +75,8 @@ def main():
     cases = axes.cases()
     text = (
         f"Uppinalo is {ours}; the others are {versions()}.\n\n"
-        f"How many of {axes.COUNT} offsets show the same date to the microsecond, and of the others how many differ for which reason:\n\n"
+        f"How many of {axes.COUNT} offsets show the same date to the microsecond, and how many of the others differ for which "
+        "reason:\n\n"
         f"{agreements(cases)}\n"
         "What each makes of a units text in `standard`, at offset 0:\n\n"
         f"{texts()}\n"

@@ -90,10 +90,11 @@ enum { MOST_BYTES = 300 };
 static const char *const NAMES[] = {"", "standard", "gregorian", "proleptic_gregorian", "ISO8601", "julian", "noleap",
     "no_leap", "365_day", "all_leap", "366_day", "uniform30day", "360_day", "tai", "utc", "none"};
 static const char *const UNITS[] = {"days since 1850-01-01", "hours since 1900-1-1 00:00:0.0", "s since 1970",
-    "calendar months since 1582-09-10", "Calendar  years SINCE -4712-01-01 12:00 UTC", "msecs since 2000-02-29T23:59:59.999999Z",
+    "calendar months since 1582-09-10", "Calendar  years SINCE -4712-01-01 12:00 UTC",
+    "msecs since 2000-02-29T23:59:59.999999Z",
     "weeks since 0-1-1", "min since +9999-12-31 23:59 -01", "mon since 1930-01-31 00:30 +01:00", "yrs since 1-1-1 1:1:1.5 gmt"};
-static const char *const PARTS[] = {"days", "since", "calendar", " ", "  ", "-", "+", "1970", "01", "1", "T", ":", ".5", "Z", "UTC", "+0130",
-    "-01:30", "s", "\xff", "0000000"};
+static const char *const PARTS[] = {"days", "since", "calendar", " ", "  ", "-", "+", "1970", "01", "1", "T", ":",
+    ".5", "Z", "UTC", "+0130", "-01:30", "s", "\xff", "0000000"};
 
 #define PICK(list) list[below(sizeof list / sizeof *list)]
 

@@ -2,7 +2,8 @@
  *
  *     fuzz COUNT SEED CALL..
  *
- * makes COUNT rounds from SEED. The calls that are named must be there; others that the archive lacks are left out. A round draws the input of one call, makes it twice, and tests that
+ * makes COUNT rounds from SEED. The calls that are named must be there; others that the archive lacks are left out. A round draws
+ * the input of one call, most often makes it twice, and tests that
  *   - the answers are the same, the number is one of the table, and a refusal has zeros beside its number;
  *   - what is lent to be read stays, what is lent to be written is written only where the answer says, and nothing beside it;
  *   - other calls agree: an offset read is written back, an element of a run reads as it does alone, a text is read back.
@@ -34,7 +35,7 @@ static void require(int holds, const char *what) {
     exit(1);
 }
 
-/* The bytes of an answer in which all padding is zero, so that answers can be compared. */
+/* Dates and fields have no padding, so their bytes can be compared. */
 #define SAME(a, b) (memcmp(&(a), &(b), sizeof(a)) == 0)
 
 static void count(uint32_t given) {
@@ -275,7 +276,7 @@ static void read_doubles(void) {
 
 typedef void (*any_call)(void);
 
-/* A call's name, its round, and the call itself, which is null where the archive does not have it. Its place is its row of `answered`. */
+/* A call's name, its round, and the call itself, null where the archive does not have it. Its place is its row of `answered`. */
 static const struct { const char *name; void (*round)(void); any_call exported; } ROUNDS[] = {
     {"read_units", read_units, (any_call)uppinalo_read_units},
     {"read_iso", read_iso, (any_call)uppinalo_read_iso},

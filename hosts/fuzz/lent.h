@@ -1,5 +1,5 @@
-/* Memory to lend: it ends, or begins, where memory that cannot be touched begins or ends, and on its other side lie bytes whose change
- * is noticed. A copy says what it held before. */
+/* Memory to lend: it ends, or begins, where memory that cannot be touched begins or ends, and on its other side lie bytes whose
+ * change is noticed. A copy says what it held before. */
 #ifndef LENT_H
 #define LENT_H
 

@@ -1,5 +1,5 @@
-//! The calls of the archive with their codes and numbers, for slices in the place of pointers. Any code, number and slice may be given:
-//! the archive refuses what it does not know, and an answer holds no type for which some bytes are not allowed.
+//! The calls of the archive with their codes and numbers, for slices in the place of pointers. Any code, number and slice may be
+//! given: the archive refuses what it does not know, and an answer holds no type for which some bytes are not allowed.
 
 use crate::raw;
 use answers::*;
