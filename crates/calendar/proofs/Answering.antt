@@ -3,13 +3,13 @@ use mathlib.Core.Path.{_≡_, sym, ap, _∙_}
 use mathlib.Core.Bool.{Bool, true, false, _&&_}
 use Prim.Native.Nat.{ℕ, _+_, _-_, _<_, _≤_}
 use native.Mathlib.Omega.{arith}
-use lib.Dec.{leb}
+use lib.Dec.{leb, ltb}
 use lib.IntN.{ℤ, subℕ}
 use lib.Signed.{leZ}
-use borrow.Author.Tests.{le-leb, lt-leb}
+use borrow.Author.Tests.{le-leb, lt-leb, leb-true, leb-false, lt-ltb, le-ltb}
 use Rattle.refusal.specs.declared.Refusal.the-variants.{NoSuchDate, OutOfRange}
 use Rattle.signed.specs.Bias.{lower}
-use Rattle.signed.proofs.Tests.{both, left-out, right-out}
+use Rattle.signed.proofs.Tests.{test-is, and-parts, left-out}
 use Rattle.signed.proofs.Differences.{sub-le, same-diff}
 use Rattle.calendar.specs.Calendar.{dateOf, inYears, exists}
 use Rattle.calendar.specs.Answers.{pickDateAnswer, dateAnswer, dayAnswer}
@@ -38,23 +38,30 @@ module _ (c : Calendar) where
       let high : highDay c ≡ lower (end c - 1 + o) = same-diff (end c - 1) (base c) (end c - 1 + o) 9223372036854775808 (omega (arith, small c)) in
       range c (lower k) ∙ ((λ i. leZ (low i) (lower k) && leZ (lower k) (high i)) ∙ (λ i. sub-le (first c + o) k 9223372036854775808 i && sub-le k (end c - 1 + o) 9223372036854775808 i))
 
+  -- the tests that the code makes, with o for the raised day number of the first place
   module _ (k o : ℕ) (is : o ≡ 9223372036854775808 - base c) where
-    pub answer-below : k < first c + o → DateAnswer.Refused OutOfRange ≡ dateAnswer c (lower k)
-    answer-below h =
+    pub years-below : k < first c + o → inYears (dateOf c (lower k) .year) ≡ false
+    years-below h =
         let b = 9223372036854775808 - base c in
-        out-of-range (lower k) (range-biased k ∙ left-out (leb (first c + b) k) (leb k (end c - 1 + b)) (lt-leb (first c + b) k (omega arith)))
+        range-biased k ∙ left-out (leb (first c + b) k) (leb k (end c - 1 + b)) (lt-leb (first c + b) k (omega arith))
 
-    pub answer-above : end c + o ≤ k → DateAnswer.Refused OutOfRange ≡ dateAnswer c (lower k)
-    answer-above h =
+    pub years-from : first c + o ≤ k → inYears (dateOf c (lower k) .year) ≡ ltb (k - o) (end c)
+    years-from h =
         let b = 9223372036854775808 - base c in
-        out-of-range (lower k) (range-biased k ∙ right-out (leb (first c + b) k) (leb k (end c - 1 + b)) (lt-leb k (end c - 1 + b) (omega (arith, small c))))
+        range-biased k
+        ∙ (ap (λ (t : Bool). t && leb k (end c - 1 + b)) (le-leb (first c + b) k (omega arith))
+        ∙ test-is (leb k (end c - 1 + b)) (ltb (k - o) (end c)) (λ e. lt-ltb (k - o) (end c) (omega (arith, small c, leb-true k (end c - 1 + b) e))) (λ e. le-ltb (k - o) (end c) (omega (arith, leb-false k (end c - 1 + b) e))))
 
-    pub answer-within : (d : Date) → o ≤ k → first c ≤ k - o → k - o < end c → d ≡ dateOf c (subℕ (k - o) (base c)) → DateAnswer.Is d ≡ dateAnswer c (lower k)
-    answer-within d l h g e =
+    -- a day number of those years, counted from the first place
+    pub years-inside : inYears (dateOf c (lower k) .year) ≡ true → (o ≤ k) × (k - o < end c)
+    years-inside h =
         let b = 9223372036854775808 - base c in
-        let same : subℕ (k - o) (base c) ≡ lower k = same-diff (k - o) (base c) k 9223372036854775808 (omega (arith, small c)) in
-        ap DateAnswer.Is (e ∙ ap (dateOf c) same)
-        ∙ in-range (lower k) (range-biased k ∙ both (leb (first c + b) k) (leb k (end c - 1 + b)) (le-leb (first c + b) k (omega arith)) (le-leb k (end c - 1 + b) (omega arith)))
+        let w = and-parts (leb (first c + b) k) (leb k (end c - 1 + b)) (sym (range-biased k) ∙ h) in
+        let l = leb-true (first c + b) k (w .0) in
+        (omega arith, omega (arith, small c, leb-true k (end c - 1 + b) (w .1)))
+
+    pub place-is : o ≤ k → subℕ (k - o) (base c) ≡ lower k
+    place-is l = same-diff (k - o) (base c) k 9223372036854775808 (omega (arith, small c))
 
 -- ---- the day number of a date
 

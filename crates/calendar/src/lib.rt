@@ -1,10 +1,11 @@
 // The six calendars: the date of a day number and the day number of a date, counted from 1970-01-01, proved against each
 // calendar's next-day rule (specs/Calendar.antt). Both calls are total.
 ghost use mathlib.Core.Path.{_≡_};
+ghost use mathlib.Core.Bool.{true};
 ghost use Prim.Native.Nat.{_-_, _≤_};
 ghost use Rattle.signed.specs.Bias.{lower};
 ghost use Rattle.calendar.specs.Answers.{dateAnswer, dayAnswer};
-ghost use Rattle.calendar.specs.Calendar.{hasYearZero};
+ghost use Rattle.calendar.specs.Calendar.{hasYearZero, inYears, dateOf};
 ghost use Rattle.calendar.specs.Closed.{base, first, end, Counted};
 use refusal::Refusal;
 
@@ -24,6 +25,7 @@ pub enum Calendar {
 }
 
 // A date as it is written: month and day count from 1.
+#[repr(C)]
 pub struct Date {
     pub year: i64,
     pub month: u32,
@@ -84,29 +86,48 @@ fn end_day(c: Calendar) -> u64
     }
 }
 
+// Whether the date of the day number k - 2^63 lies in the years -9999 to 9999.
+fn day_in_years(c: Calendar, k: u64) -> bool
+    ensures { λ r. ⌜ r ≡ inYears (dateOf c (lower k) .year) ⌝ }
+{
+    let o = origin(c);
+    if k < o {
+        return false;
+    }
+    if k - o < first_day(c) {
+        return false;
+    }
+    return k - o < end_day(c);
+}
+
+// The date of such a day number.
+fn date_in_years(c: Calendar, k: u64) -> Date
+    requires { ⌜ inYears (dateOf c (lower k) .year) ≡ true ⌝ }
+    ensures { λ d. ⌜ d ≡ dateOf c (lower k) ⌝ }
+{
+    civil::date_at(c, k - origin(c))
+}
+
 // The date of the day number k - 2^63; OutOfRange where its year lies past -9999 to 9999.
 pub fn date_of_biased_day(c: Calendar, k: u64) -> DateAnswer
     ensures { λ r. ⌜ r ≡ dateAnswer c (lower k) ⌝ }
 {
-    let o = origin(c);
-    if k < o {
-        return DateAnswer::Refused(Refusal::OutOfRange);
+    if day_in_years(c, k) {
+        return DateAnswer::Is(date_in_years(c, k));
     }
-    let n = k - o;
-    if n < first_day(c) {
-        return DateAnswer::Refused(Refusal::OutOfRange);
-    }
-    if end_day(c) <= n {
-        return DateAnswer::Refused(Refusal::OutOfRange);
-    }
-    return DateAnswer::Is(civil::date_at(c, n));
+    return DateAnswer::Refused(Refusal::OutOfRange);
 }
 
-// The date of a day number, counted from 1970-01-01; OutOfRange where its year lies past -9999 to 9999.
+// The date of a day number, counted from 1970-01-01; OutOfRange where its year lies past -9999 to 9999. It does not go by the call
+// above, so that both stay small enough to be inlined, and no answer passes through memory.
 pub fn date_of_day(c: Calendar, n: i64) -> DateAnswer
     ensures { λ r. ⌜ r ≡ dateAnswer c n ⌝ }
 {
-    date_of_biased_day(c, signed::biased(n))
+    let k = signed::biased(n);
+    if day_in_years(c, k) {
+        return DateAnswer::Is(date_in_years(c, k));
+    }
+    return DateAnswer::Refused(Refusal::OutOfRange);
 }
 
 pub fn has_year_zero(c: Calendar) -> bool

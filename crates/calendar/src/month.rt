@@ -20,6 +20,17 @@ pub fn month_length(k: usize, m: usize) -> u64
     LENGTHS[k][m] as u64
 }
 
+// The days by which January and February fall short of 30 and 31: what the months after them are early by.
+fn short_days(k: u64, m: u64) -> u64
+    requires { ⌜ k < 2 ⌝ }
+    ensures { λ r. ⌜ r ≡ cond (ltb m 2) 0 (2 - k) ⌝ }
+{
+    if m < 2 {
+        return 0;
+    }
+    return 2 - k;
+}
+
 // The days of the year before a month.
 pub fn month_start(k: usize, m: usize) -> u64
     requires { ⌜ (k < 3) × (m < 12) ⌝ }
@@ -30,10 +41,7 @@ pub fn month_start(k: usize, m: usize) -> u64
     if j == 2 {
         return 30 * n;
     }
-    if n < 2 {
-        return (367 * n + 5) / 12;
-    }
-    return (367 * n + 5) / 12 - (2 - j);
+    return (367 * n + 5) / 12 - short_days(j, n);
 }
 
 // A day of a year of twelve uneven months, moved on as if February had 30 days.

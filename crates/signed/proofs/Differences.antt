@@ -110,7 +110,7 @@ common x y =
 
 -- ---- multiples
 
-neg-plus : (m s : ℕ) → negℤ (pos m) +ℤ pos s ≡ subℕ s m
+pub neg-plus : (m s : ℕ) → negℤ (pos m) +ℤ pos s ≡ subℕ s m
 neg-plus zero s = ap pos (omega arith) ∙ sym (sub-high s 0 (omega arith))
 neg-plus (suc m) s = refl
 

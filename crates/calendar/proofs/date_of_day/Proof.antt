@@ -1,5 +1,8 @@
 -- `calendar::date_of_day` meets its contract. Assumes nothing.
-use mathlib.Core.Path.{_∙_, ap}
+use mathlib.Core.Path.{sym, ap, _∙_}
+use Rattle.calendar.specs.declared.DateAnswer.{DateAnswer}
+use Rattle.calendar.proofs.Answering.{in-range, out-of-range}
+use Rattle.signed.specs.Bias.{lower}
 use Rattle.signed.proofs.Machine.{crossed}
 use Rattle.calendar.specs.Answers.{dateAnswer}
 use borrow.Author.Needs.{needs}
@@ -9,15 +12,30 @@ use Rattle.calendar.proofs.date_of_day.Tie as tie
 biased-requires : tie.Need-biased-requires
 biased-requires c κs = search needs
 
-date-of-biased-day-requires : tie.Need-date-of-biased-day-requires
-date-of-biased-day-requires c κs = search needs
+day-in-years-requires : tie.Need-day-in-years-requires
+day-in-years-requires c κs = search needs
+
+date-in-years-requires : tie.Need-date-in-years-requires
+date-in-years-requires c κs = sym (c .before .day-in-years .ensures) ∙ c .if1 .taken
 
 returns : tie.Need-returns
 returns c =
-    let s = c .before .before in
-    let n = s .args .n in
-    c .date-of-biased-day .ensures
-    ∙ ap (dateAnswer (s .args .c)) (crossed n (c .before .biased .result) (s .fits .n) (c .before .biased .ensures))
+    let d = c .before .before in
+    let b = d .before in
+    let s = b .before in
+    ap DateAnswer.Is (c .date-in-years .ensures)
+    ∙ (in-range (s .args .c) (lower (b .biased .result)) (sym (d .day-in-years .ensures) ∙ c .before .if1 .taken)
+    ∙ ap (dateAnswer (s .args .c)) (crossed (s .args .n) (b .biased .result) (s .fits .n) (b .biased .ensures)))
+
+returns-2 : tie.Need-returns-2
+returns-2 c =
+    let d = c .before in
+    let b = d .before in
+    let s = b .before in
+    out-of-range (s .args .c) (lower (b .biased .result)) (sym (d .day-in-years .ensures) ∙ c .if1 .left)
+    ∙ ap (dateAnswer (s .args .c)) (crossed (s .args .n) (b .biased .result) (s .fits .n) (b .biased .ensures))
 
 pub date-of-day-spec : {M : Type 1} → statement M
-date-of-day-spec = tie.close (tie.spec biased-requires date-of-biased-day-requires returns)
+date-of-day-spec =
+    tie.close
+    (tie.spec biased-requires day-in-years-requires date-in-years-requires returns returns-2)

@@ -1,0 +1,24 @@
+# What is done beside `rt`. `make test` is the gate.
+.PHONY: test hosts compare faults bench lib clean
+
+test:     # the gate: every proof, every must-fail edit, the programs and the tests from other languages
+	bash .ci/run
+
+lib:      # the archive and the shared object of include/uppinalo.h
+	rt staticlib uppinalo
+	gcc -shared -o target/staticlib/libuppinalo.so -Wl,--whole-archive target/staticlib/libuppinalo.a -Wl,--no-whole-archive
+
+hosts:    # the tests from other languages, with the short comparison
+	hosts/run
+
+compare:  # the same with the long comparison
+	hosts/run --long
+
+faults:   # that the comparison finds faults
+	hosts/compare/faults
+
+bench:    # speed beside plain Rust
+	bench/run
+
+clean:
+	rm -rf target

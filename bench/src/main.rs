@@ -1,0 +1,30 @@
+//! Prints, for each call, the nanoseconds of the proved library and of plain Rust, and their ratio.
+//! The words after the command choose what is measured; none choose all.
+
+#[cfg(feature = "stub")]
+extern crate stub as _;
+
+use bench::measure::{calendars, offsets, runs, texts};
+use bench::timing;
+
+const MEASUREMENTS: [(&str, fn()); 9] = [
+    ("dates", calendars::dates),
+    ("days", calendars::days),
+    ("fields", calendars::fields),
+    ("double", offsets::reading),
+    ("doubles", runs::doubles),
+    ("wholes", runs::wholes),
+    ("iso", texts::iso),
+    ("units", texts::units),
+    ("writing", offsets::writing),
+];
+
+fn main() {
+    let words: Vec<String> = std::env::args().skip(1).collect();
+    timing::print_head();
+    for (name, run) in MEASUREMENTS {
+        if words.is_empty() || words.iter().any(|word| word == name) {
+            run();
+        }
+    }
+}

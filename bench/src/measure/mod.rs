@@ -1,0 +1,43 @@
+//! What is measured: each call of the archive beside its plain Rust, on the same inputs.
+
+pub mod calendars;
+pub mod offsets;
+pub mod runs;
+pub mod texts;
+
+use answers::Axis;
+use samples::{Random, instants};
+use std::hint::black_box;
+
+const ELEMENTS: usize = 1 << 15;
+const NAMES: [&str; 6] = ["standard", "proleptic_gregorian", "julian", "noleap", "all_leap", "360_day"];
+
+/// 1900-01-01 of `proleptic_gregorian`.
+const FROM_1900: i64 = -25_567 * instants::DAY;
+
+/// The sum of a call's answers over all inputs. The function's address is hidden, so that no call is inlined.
+fn summed<T: Copy, F>(inputs: &[T], call: F, one: impl Fn(&F, T) -> u64) -> u64 {
+    let call = black_box(call);
+    inputs.iter().fold(0, |sum, &input| sum.wrapping_add(one(&call, input)))
+}
+
+/// For each calendar, a label and instants over all years, and the same near today.
+fn each_span(what: &str, seed: u64, measure: impl Fn(&str, u32, Vec<i64>)) {
+    let mut random = Random::seeded(seed);
+    for (calendar, name) in (0..).zip(NAMES) {
+        let all = instants::over_all_years(&mut random, calendar, ELEMENTS);
+        let near = instants::from_1850_to_2100(&mut random, calendar, ELEMENTS);
+        measure(&format!("{what}, {name}, all years"), calendar, all);
+        measure(&format!("{what}, {name}, 1850-2100"), calendar, near);
+    }
+}
+
+fn axis(calendar: u32, period: u32, mode: u32) -> Axis {
+    Axis { calendar, period, mode, reference: FROM_1900 }
+}
+
+/// Whole offsets of both signs, within about 100 years of the reference.
+fn whole_offsets(random: &mut Random, axis: Axis) -> Vec<i64> {
+    let span = 100 * 365 * instants::DAY / crate::plain::period::microseconds(axis.period);
+    (0..ELEMENTS).map(|_| random.between(-span, span)).collect()
+}

@@ -1,0 +1,54 @@
+//! ISO text written and units text read.
+
+use super::{each_span, summed};
+use crate::plain;
+use crate::timing::{compare, print_missing};
+use answers::{AxisAnswer, LengthAnswer};
+use uppinalo::{is_exported, raw};
+
+type WriteIso = unsafe extern "C" fn(u32, i64, *mut u8, usize) -> LengthAnswer;
+type ReadUnits = unsafe extern "C" fn(*const u8, usize, *const u8, usize) -> AxisAnswer;
+
+/// The room is not cleared between.
+pub fn iso() {
+    if !is_exported("write_iso") {
+        return print_missing("ISO text written");
+    }
+    each_span("ISO text written", 6, |label, calendar, inputs| {
+        let sum = |call: WriteIso| {
+            let room = std::cell::Cell::new([0u8; 32]);
+            summed(&inputs, call, |call, instant| {
+                let answer = unsafe { call(calendar, instant, room.as_ptr().cast(), 32) };
+                let word = |at: usize| u64::from_le_bytes(room.get()[at..at + 8].try_into().unwrap());
+                answer.number as u64 ^ answer.length as u64 ^ word(0) ^ word(18)
+            })
+        };
+        compare(label, inputs.len(), || sum(raw::uppinalo_write_iso), || sum(plain::iso::write_iso));
+    });
+}
+
+const TEXTS: [(&str, &str); 8] = [
+    ("standard", "days since 1850-01-01"),
+    ("", "hours since 1900-01-01 00:00:0.0"),
+    ("proleptic_gregorian", "seconds since 1970-01-01T00:00:00Z"),
+    ("noleap", "days since 0001-01-01 00:00:00"),
+    ("360_day", "calendar months since 1930-01-30"),
+    ("gregorian", "minutes since 2000-1-1 12:30:15.25 +05:30"),
+    ("julian", "calendar years since -4712-01-01 12:00 UTC"),
+    ("365_day", "millisecs since 1970-01-01"),
+];
+
+pub fn units() {
+    if !is_exported("read_units") {
+        return print_missing("units text read");
+    }
+    let inputs = TEXTS.repeat(512);
+    let sum = |call: ReadUnits| {
+        summed(&inputs, call, |call, (name, text)| {
+            let AxisAnswer { number, axis } = unsafe { call(name.as_ptr(), name.len(), text.as_ptr(), text.len()) };
+            axis.reference as u64 ^ (number ^ axis.calendar ^ axis.period << 8 ^ axis.mode << 16) as u64
+        })
+    };
+    let label = "units text read, 8 texts in turn";
+    compare(label, inputs.len(), || sum(raw::uppinalo_read_units), || sum(plain::units::read_units));
+}

@@ -1,0 +1,54 @@
+//! Instants and their fields.
+
+use super::days;
+use answers::{Date, Fields, FieldsAnswer};
+
+pub const DAY: i64 = 86_400_000_000;
+
+pub fn is_in_range(calendar: u32, instant: i64) -> bool {
+    let (first, last) = days::range(calendar);
+    first * DAY <= instant && instant < (last + 1) * DAY
+}
+
+/// The fields of an instant of a known calendar, in its range.
+pub fn fields(calendar: u32, instant: i64) -> Fields {
+    let date = days::date(calendar, instant.div_euclid(DAY));
+    let time = instant.rem_euclid(DAY) as u64;
+    let (seconds, microsecond) = (time / 1_000_000, time % 1_000_000);
+    Fields {
+        year: date.year,
+        month: date.month,
+        day: date.day,
+        hour: (seconds / 3600) as u32,
+        minute: (seconds / 60 % 60) as u32,
+        second: (seconds % 60) as u32,
+        microsecond: microsecond as u32,
+    }
+}
+
+pub fn date_of(fields: Fields) -> Date {
+    Date { year: fields.year, month: fields.month, day: fields.day }
+}
+
+/// Whether fields whose year is in range exist.
+pub fn exist(calendar: u32, fields: Fields) -> bool {
+    let clock = fields.hour < 24 && fields.minute < 60 && fields.second < 60 && fields.microsecond < 1_000_000;
+    clock && days::exists(calendar, date_of(fields))
+}
+
+/// The instant of fields that exist.
+pub fn instant(calendar: u32, fields: Fields) -> i64 {
+    let seconds = (fields.hour as i64 * 60 + fields.minute as i64) * 60 + fields.second as i64;
+    days::day(calendar, date_of(fields)) * DAY + seconds * 1_000_000 + fields.microsecond as i64
+}
+
+#[inline(never)]
+pub extern "C" fn fields_of(calendar: u32, instant: i64) -> FieldsAnswer {
+    if calendar > 5 {
+        return FieldsAnswer { number: 2, ..Default::default() };
+    }
+    if !is_in_range(calendar, instant) {
+        return FieldsAnswer { number: 5, ..Default::default() };
+    }
+    FieldsAnswer { number: 0, fields: fields(calendar, instant) }
+}

@@ -1,0 +1,147 @@
+//! Units text read, from the left to the right.
+
+use super::scanner::Scanner;
+use super::{clock, lent};
+use answers::{Axis, AxisAnswer, Fields};
+
+struct Written {
+    fields: Fields,
+    zone: Option<i64>,
+}
+
+fn calendar(name: &[u8]) -> Option<u32> {
+    Some(match name {
+        b"" | b"standard" | b"gregorian" => 0,
+        b"proleptic_gregorian" | b"ISO8601" => 1,
+        b"julian" => 2,
+        b"noleap" | b"no_leap" | b"365_day" => 3,
+        b"all_leap" | b"366_day" => 4,
+        b"uniform30day" | b"360_day" => 5,
+        _ => return None,
+    })
+}
+
+fn period(word: &[u8]) -> Option<u32> {
+    Some(match word.strip_suffix(b"s").filter(|word| !word.is_empty() && *word != b"s").unwrap_or(word) {
+        b"second" | b"sec" | b"s" => 0,
+        b"millisec" | b"msec" => 1,
+        b"minute" | b"min" => 2,
+        b"hour" | b"hr" => 3,
+        b"day" => 4,
+        b"week" => 5,
+        b"month" | b"mon" => 6,
+        b"year" | b"yr" => 7,
+        _ => return None,
+    })
+}
+
+fn period_word(text: &mut Scanner) -> Option<u32> {
+    let length = text.rest.iter().take_while(|byte| byte.is_ascii_lowercase()).count();
+    let (word, rest) = text.rest.split_at(length);
+    text.rest = rest;
+    period(word)
+}
+
+/// The fraction's digits, with zeros added to make six.
+fn fraction(text: &mut Scanner) -> Option<u32> {
+    let (number, count) = text.digits(6);
+    (count > 0).then(|| number * 10u32.pow(6 - count as u32))
+}
+
+fn time(text: &mut Scanner, fields: &mut Fields) -> Option<()> {
+    fields.hour = text.number(1, 2)?;
+    if text.byte(b':') {
+        fields.minute = text.number(1, 2)?;
+        if text.byte(b':') {
+            fields.second = text.number(1, 2)?;
+            if text.byte(b'.') {
+                fields.microsecond = fraction(text)?;
+            }
+        }
+    }
+    Some(())
+}
+
+/// The zone's microseconds ahead of UTC, or that it does not exist.
+fn zone(text: &mut Scanner) -> Option<Option<i64>> {
+    if text.rest.is_empty() {
+        return Some(Some(0));
+    }
+    text.byte(b' ');
+    if text.word_in_any_case(b"Z") || text.word_in_any_case(b"UTC") || text.word_in_any_case(b"GMT") {
+        return Some(Some(0));
+    }
+    let is_behind = text.byte(b'-');
+    if !is_behind && !text.byte(b'+') {
+        return None;
+    }
+    let hours = text.number(2, 2)?;
+    let has_minutes = text.byte(b':') || !text.rest.is_empty();
+    let minutes = if has_minutes { text.number(2, 2)? } else { 0 };
+    let ahead = (hours as i64 * 60 + minutes as i64) * 60_000_000;
+    Some((hours < 24 && minutes < 60).then_some(if is_behind { -ahead } else { ahead }))
+}
+
+fn date(text: &mut Scanner) -> Option<Written> {
+    let mut fields = Fields { month: 1, day: 1, ..Default::default() };
+    let mut ahead = Some(0);
+    let is_negative = text.byte(b'-');
+    if !is_negative {
+        text.byte(b'+');
+    }
+    let year = text.number(1, 4)? as i64;
+    fields.year = if is_negative { -year } else { year };
+    if text.byte(b'-') {
+        fields.month = text.number(1, 2)?;
+        if text.byte(b'-') {
+            fields.day = text.number(1, 2)?;
+            if text.byte(b'T') || text.byte(b' ') {
+                time(text, &mut fields)?;
+                ahead = zone(text)?;
+            }
+        }
+    }
+    text.rest.is_empty().then_some(Written { fields, zone: ahead })
+}
+
+/// The mode, the period and the date.
+fn units(text: &[u8]) -> Option<(u32, u32, Written)> {
+    let mut text = Scanner { rest: text };
+    let mode = text.word_in_any_case(b"calendar") as u32;
+    if mode == 1 {
+        text.spaces()?;
+    }
+    let period = period_word(&mut text)?;
+    text.spaces()?;
+    if !text.word_in_any_case(b"since") {
+        return None;
+    }
+    text.spaces()?;
+    Some((mode, period, date(&mut text)?))
+}
+
+fn read(name: &[u8], text: &[u8]) -> Result<Axis, u32> {
+    if text.len() > 128 {
+        return Err(1);
+    }
+    let calendar = calendar(name).ok_or(2u32)?;
+    let (mode, period, written) = units(text).ok_or(3u32)?;
+    if !clock::exist(calendar, written.fields) {
+        return Err(4);
+    }
+    let reference = clock::instant(calendar, written.fields) - written.zone.ok_or(4u32)?;
+    if !clock::is_in_range(calendar, reference) {
+        return Err(5);
+    }
+    Ok(Axis { calendar, period, mode, reference })
+}
+
+/// # Safety
+/// The pointers lend so many bytes each.
+#[inline(never)]
+pub unsafe extern "C" fn read_units(name: *const u8, name_len: usize, text: *const u8, text_len: usize) -> AxisAnswer {
+    match unsafe { read(lent(name, name_len), lent(text, text_len)) } {
+        Ok(axis) => AxisAnswer { number: 0, axis },
+        Err(number) => AxisAnswer { number, ..Default::default() },
+    }
+}

@@ -1,0 +1,84 @@
+//! Whole offsets read.
+
+use super::{clock, days, period};
+use answers::{Axis, Date, Fields, Reading};
+
+/// A calendar's years in a row, with no gap at year 0.
+fn row(calendar: u32, year: i64) -> i64 {
+    if calendar == 0 && year < 0 { year + 1 } else { year }
+}
+
+fn year_of_row(calendar: u32, row: i64) -> i64 {
+    if calendar == 0 && row <= 0 { row - 1 } else { row }
+}
+
+/// Months since the month 1 of row 0.
+pub fn month_count(calendar: u32, fields: Fields) -> i64 {
+    row(calendar, fields.year) * 12 + fields.month as i64 - 1
+}
+
+/// The last day of a month that is not after a day.
+fn day_at_most(calendar: u32, year: i64, month: u32, day: u32) -> u32 {
+    let day = day.min(days::month_length(calendar, year, month));
+    if days::exists(calendar, Date { year, month, day }) { day } else { 4 }
+}
+
+/// The instant of some fields in another month, where its year is in range.
+pub fn in_month(calendar: u32, fields: Fields, months: i64) -> Option<i64> {
+    let year = year_of_row(calendar, months.div_euclid(12));
+    if !(-9999..=9999).contains(&year) {
+        return None;
+    }
+    let month = months.rem_euclid(12) as u32 + 1;
+    let day = day_at_most(calendar, year, month, fields.day);
+    Some(clock::instant(calendar, Fields { year, month, day, ..fields }))
+}
+
+/// An axis, and what of its reference every step needs.
+#[derive(Clone, Copy)]
+pub struct Start {
+    pub axis: Axis,
+    fields: Fields,
+    months: i64,
+}
+
+impl Start {
+    /// Of a good axis. Only calendar steps need the reference's fields.
+    pub fn of(axis: Axis) -> Start {
+        if !period::is_calendar_step(axis) {
+            return Start { axis, fields: Fields::default(), months: 0 };
+        }
+        let fields = clock::fields(axis.calendar, axis.reference);
+        Start { axis, fields, months: month_count(axis.calendar, fields) }
+    }
+
+    fn calendar_step(&self, offset: i64) -> Option<i64> {
+        let steps = if self.axis.period == period::YEAR { offset.checked_mul(12)? } else { offset };
+        in_month(self.axis.calendar, self.fields, self.months.checked_add(steps)?)
+    }
+
+    /// The instant of an offset, where it is in range.
+    fn instant(&self, offset: i64) -> Option<i64> {
+        let axis = self.axis;
+        if period::is_calendar_step(axis) {
+            return self.calendar_step(offset);
+        }
+        let instant = offset.checked_mul(period::microseconds(axis.period))?.checked_add(axis.reference)?;
+        clock::is_in_range(axis.calendar, instant).then_some(instant)
+    }
+
+    pub fn read(&self, offset: i64) -> Reading {
+        match self.instant(offset) {
+            Some(instant) => Reading { number: 0, instant, exact: true },
+            None => Reading { number: 5, ..Default::default() },
+        }
+    }
+}
+
+#[inline(never)]
+pub extern "C" fn read_whole(axis: Axis, offset: i64) -> Reading {
+    match period::refusal(axis) {
+        0 => Start::of(axis).read(offset),
+        number => Reading { number, ..Default::default() },
+    }
+}

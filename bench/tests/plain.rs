@@ -1,0 +1,119 @@
+//! The plain Rust that is timed against gives the second program's answers: no ratio is against a wrong program.
+
+use answers::*;
+use bench::plain;
+use samples::{Random, instants};
+use second::boundary;
+
+const COUNT: usize = 30_000;
+
+/// Instants around the ends of the range and anywhere, with a code that no calendar has among the codes.
+fn instant(random: &mut Random, calendar: u32) -> i64 {
+    let known = calendar.min(5);
+    match random.below(4) {
+        0 => instants::first(known) + random.between(-3 * instants::DAY, 3 * instants::DAY),
+        1 => instants::last(known) + random.between(-3 * instants::DAY, 3 * instants::DAY),
+        2 => random.bits() as i64,
+        _ => random.between(instants::first(known), instants::last(known)),
+    }
+}
+
+fn axis(random: &mut Random) -> Axis {
+    let calendar = random.below(6) as u32;
+    let reference = match random.below(20) {
+        0 => instant(random, calendar),
+        _ => random.between(instants::first(calendar), instants::last(calendar)),
+    };
+    Axis { calendar, period: random.below(8) as u32, mode: random.below(2) as u32, reference }
+}
+
+fn double(random: &mut Random) -> f64 {
+    match random.below(4) {
+        0 => f64::from_bits(random.bits()),
+        1 => random.between(-4000, 4000) as f64,
+        2 => random.between(-1 << 40, 1 << 40) as f64 / 128.0,
+        _ => random.between(-1 << 50, 1 << 50) as f64 / (1i64 << random.below(60)) as f64,
+    }
+}
+
+#[test]
+fn instants_and_days() {
+    let mut random = Random::seeded(11);
+    for _ in 0..COUNT {
+        let calendar = random.below(7) as u32;
+        let instant = instant(&mut random, calendar);
+        assert_eq!(plain::clock::fields_of(calendar, instant), boundary::fields_of(calendar, instant));
+        let day = instant.div_euclid(instants::DAY);
+        assert_eq!(plain::days::date_of_day(calendar, day), boundary::date_of_day_number(calendar, day));
+        let (mut ours, mut others) = ([7; 28], [7; 28]);
+        let answer = unsafe { plain::iso::write_iso(calendar, instant, ours.as_mut_ptr(), 28) };
+        assert_eq!(answer, boundary::write_iso(calendar, instant, &mut others));
+        assert_eq!(ours, others);
+    }
+}
+
+#[test]
+fn dates() {
+    let mut random = Random::seeded(12);
+    for _ in 0..COUNT {
+        let any = random.between(-10_000, 10_000);
+        let year = random.pick(&[1582, 0, -1, 10_000, any]);
+        let date = Date { year, month: random.below(14) as u32, day: random.below(33) as u32 };
+        let calendar = random.below(6) as u32;
+        assert_eq!(plain::days::day_of_date(calendar, date), boundary::day_number_of_date(calendar, date), "{date:?}");
+    }
+}
+
+#[test]
+fn offsets() {
+    let mut random = Random::seeded(13);
+    for _ in 0..COUNT {
+        let axis = axis(&mut random);
+        let offset = random.bits() as i64 >> random.below(64);
+        assert_eq!(plain::wholes::read_whole(axis, offset), boundary::read_whole(axis, offset), "{axis:?} {offset}");
+        let x = double(&mut random);
+        assert_eq!(plain::doubles::read_double(axis, x), boundary::read_double(axis, x), "{axis:?} {x:e}");
+    }
+}
+
+#[test]
+fn writing() {
+    let mut random = Random::seeded(14);
+    for _ in 0..COUNT / 10 {
+        let axis = axis(&mut random);
+        let read = plain::wholes::read_whole(axis, random.bits() as i64 >> random.below(64));
+        let instant =
+            if read.number == 0 { read.instant + random.one_in(3) as i64 } else { instant(&mut random, axis.calendar) };
+        assert_eq!(plain::writing::write_instant(axis, instant), boundary::write_instant(axis, instant), "{axis:?}");
+        let fields = plain::clock::fields_of(axis.calendar, instant).fields;
+        assert_eq!(plain::writing::write_fields(axis, fields), boundary::write_fields(axis, fields), "{axis:?}");
+    }
+}
+
+#[test]
+fn units() {
+    let mut random = Random::seeded(15);
+    let starts =
+        ["days since ", "calendar  mons SINCE ", "ss since ", "s since ", "secs since ", "CALENDAR yrs since  "];
+    let dates = [
+        "1970-01-01",
+        "-1-2-29",
+        "0",
+        "1582-10-10",
+        "1900-2-29",
+        "9999-12-31",
+        "-9999-1-1",
+        "+5",
+        "12345",
+        "1970-13-1",
+    ];
+    let times = ["", " 0", "T23:59", " 24", " 1:2:3.045", "T0:0:60", " 7:8:9.", "T12:60"];
+    let zones = ["", "Z", " utc", " +01:30", "-0130", "+24", "-00:60", " +1", "+01:", "  Z", "-23:59"];
+    for _ in 0..COUNT {
+        let name =
+            random.pick(&["", "standard", "julian", "360_day", "noleap", "366_day", "ISO8601", "tai"]).as_bytes();
+        let text = [&starts[..], &dates, &times, &zones].map(|list| random.pick(list)).concat();
+        let answer = unsafe { plain::units::read_units(name.as_ptr(), name.len(), text.as_ptr(), text.len()) };
+        assert_eq!(answer, boundary::read_units(name, text.as_bytes()), "{text}");
+    }
+}

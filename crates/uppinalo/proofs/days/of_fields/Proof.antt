@@ -1,0 +1,25 @@
+-- `uppinalo::days::of_fields` meets its contract. Assumes nothing.
+use mathlib.Core.Path.{sym, ap, _∙_}
+use Rattle.uppinalo.specs.Days.{ofFields}
+use borrow.Author.Needs.{needs}
+use Rattle.uppinalo.proofs.days.of_fields.Statement.{statement}
+use Rattle.uppinalo.proofs.days.of_fields.Tie as tie
+
+enum-known-a : tie.Need-enum-known-a
+enum-known-a c = search needs
+
+returns : tie.Need-returns
+returns c = ap ofFields (sym (c .before .a .given .1))
+
+enum-known-a-2 : tie.Need-enum-known-a-2
+enum-known-a-2 c = search needs
+
+no-fields-requires : tie.Need-no-fields-requires
+no-fields-requires c κs = search needs
+
+returns-2 : tie.Need-returns-2
+returns-2 c = c .no-fields .ensures ∙ ap ofFields (sym (c .before .before .a2 .given .1))
+
+pub of-fields-spec : {M : Type 1} → statement M
+of-fields-spec =
+    tie.close (tie.spec enum-known-a returns enum-known-a-2 no-fields-requires returns-2)

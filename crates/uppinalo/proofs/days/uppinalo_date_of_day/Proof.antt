@@ -1,0 +1,54 @@
+-- `uppinalo::days::uppinalo_date_of_day` meets its contract. Assumes nothing.
+use mathlib.Core.Path.{sym, ap, _∙_}
+use Rattle.uppinalo.specs.Days.{dateIn, ofDate}
+use Rattle.uppinalo.specs.declared.codes.CodedCalendar.{CodedCalendar}
+use lib.IntN.{ℤ}
+use mir.Syntax.{w64}
+use mir.ValLaws.{toZ-ofZ}
+use borrow.Author.Needs.{needs}
+use Rattle.uppinalo.proofs.days.uppinalo_date_of_day.Statement.{statement}
+use Rattle.uppinalo.proofs.days.uppinalo_date_of_day.Tie as tie
+
+calendar-of-requires : tie.Need-calendar-of-requires
+calendar-of-requires c κs = search needs
+
+enum-told : tie.Need-enum-told
+enum-told c = search needs
+
+no-date-requires : tie.Need-no-date-requires
+no-date-requires c κs = search needs
+
+returns : tie.Need-returns
+returns c =
+    let k = c .before .before .before in
+    c .no-date .ensures ∙ ap (λ (x : CodedCalendar). dateIn x (k .before .args .day)) (sym (c .before .enum-told .given .1) ∙ k .calendar-of .ensures)
+
+enum-known-c : tie.Need-enum-known-c
+enum-known-c c = search needs
+
+date-of-day-requires : tie.Need-date-of-day-requires
+date-of-day-requires c κs = search needs
+
+of-date-requires : tie.Need-of-date-requires
+of-date-requires c κs = search needs
+
+returns-2 : tie.Need-returns-2
+returns-2 c =
+    let v = c .before .before .before in
+    let k = v .c .given .0 .0 in
+    let o = v .before .before in
+    let s = o .before in
+    c .of-date .ensures ∙ (ap ofDate (c .before .date-of-day .ensures) ∙ (ap (λ (n : ℤ). dateIn (CodedCalendar.Is k) n) (toZ-ofZ w64 (s .args .day) (s .fits .day)) ∙ ap (λ (x : CodedCalendar). dateIn x (s .args .day)) (sym (v .c .given .1) ∙ o .calendar-of .ensures)))
+
+pub uppinalo-date-of-day-spec : {M : Type 1} → statement M
+uppinalo-date-of-day-spec =
+    tie.close
+    (tie.spec
+    calendar-of-requires
+    enum-told
+    no-date-requires
+    returns
+    enum-known-c
+    date-of-day-requires
+    of-date-requires
+    returns-2)

@@ -1,0 +1,55 @@
+-- The answers of the C boundary about days and instants: the number, and zeros beside a refusal.
+use lib.IntN.{ℤ, pos}
+use Rattle.refusal.specs.Number.{numberOf}
+use Rattle.refusal.specs.declared.Refusal.the-variants.{UnknownCalendar}
+use Rattle.refusal.specs.declared.Refusal.{Refusal}
+use Rattle.calendar.specs.Answers.{dateAnswer, dayAnswer}
+use Rattle.calendar.specs.declared.Date.{Date}
+use Rattle.calendar.specs.declared.DateAnswer.{DateAnswer}
+use Rattle.calendar.specs.declared.DayAnswer.{DayAnswer}
+use Rattle.instant.specs.Instant.{fieldsAnswer}
+use Rattle.instant.specs.declared.Fields.{Fields}
+use Rattle.instant.specs.declared.FieldsAnswer.{FieldsAnswer}
+use Rattle.uppinalo.specs.declared.codes.CodedCalendar.{CodedCalendar}
+use Rattle.uppinalo.specs.declared.days.UppinaloDateAnswer.{UppinaloDateAnswer}
+use Rattle.uppinalo.specs.declared.days.UppinaloDayAnswer.{UppinaloDayAnswer}
+use Rattle.uppinalo.specs.declared.days.UppinaloFieldsAnswer.{UppinaloFieldsAnswer}
+
+-- ---- a date
+
+abbrev pub noDate : Refusal → UppinaloDateAnswer
+noDate r = record { number = numberOf r; date = record { year = pos 0; month = 0; day = 0 } }
+
+abbrev pub ofDate : DateAnswer → UppinaloDateAnswer
+ofDate (DateAnswer.Is d) = record { number = 0; date = d }
+ofDate (DateAnswer.Refused r) = noDate r
+
+abbrev pub dateIn : CodedCalendar → ℤ → UppinaloDateAnswer
+dateIn (CodedCalendar.Is c) n = ofDate (dateAnswer c n)
+dateIn CodedCalendar.Unknown n = noDate UnknownCalendar
+
+-- ---- a day number
+
+abbrev pub noDay : Refusal → UppinaloDayAnswer
+noDay r = record { number = numberOf r; day = pos 0 }
+
+abbrev pub ofDay : DayAnswer → UppinaloDayAnswer
+ofDay (DayAnswer.Is n) = record { number = 0; day = n }
+ofDay (DayAnswer.Refused r) = noDay r
+
+abbrev pub dayIn : CodedCalendar → Date → UppinaloDayAnswer
+dayIn (CodedCalendar.Is c) x = ofDay (dayAnswer c x)
+dayIn CodedCalendar.Unknown x = noDay UnknownCalendar
+
+-- ---- fields
+
+abbrev pub noFields : Refusal → UppinaloFieldsAnswer
+noFields r = record { number = numberOf r; fields = record { year = pos 0; month = 0; day = 0; hour = 0; minute = 0; second = 0; microsecond = 0 } }
+
+abbrev pub ofFields : FieldsAnswer → UppinaloFieldsAnswer
+ofFields (FieldsAnswer.Is f) = record { number = 0; fields = f }
+ofFields (FieldsAnswer.Refused r) = noFields r
+
+abbrev pub fieldsIn : CodedCalendar → ℤ → UppinaloFieldsAnswer
+fieldsIn (CodedCalendar.Is c) t = ofFields (fieldsAnswer c t)
+fieldsIn CodedCalendar.Unknown t = noFields UnknownCalendar

@@ -1,0 +1,54 @@
+-- `year_starts::put_letters` is safe and ends: no more letters are put than years were tried.
+-- Assumes nothing.
+use Prim.Native.Nat.{_≤_, _-_}
+use native.Mathlib.Omega.{arith}
+use mathlib.Core.Path.{_≡_, refl}
+use borrow.Author.Needs.{needs}
+use lib.ListN.{length}
+use Rattle.year_starts.proofs.put_letters.Statement.{statement}
+use Rattle.year_starts.proofs.put_letters.Tie as tie
+
+abbrev Inv-loop : tie.InvT-loop
+Inv-loop c from letters₀ n₀ i₀ letters n i = (length letters ≡ length letters₀) × (100 ≤ length letters₀) × (from ≤ 19900) × (n ≤ i) × (i ≤ 100)
+
+abbrev μ-loop : tie.MeasureT-loop
+μ-loop c from letters₀ n₀ i₀ letters n i = 100 - i
+
+loop-holds : tie.Need-loop-holds Inv-loop μ-loop
+loop-holds c = (refl, omega arith, omega arith, omega arith, omega arith)
+
+add-put-letter : tie.Need-add-put-letter Inv-loop μ-loop
+add-put-letter c = search needs
+
+put-letter-requires : tie.Need-put-letter-requires Inv-loop μ-loop
+put-letter-requires c κs = search needs
+
+add-i : tie.Need-add-i Inv-loop μ-loop
+add-i c = search needs
+
+loop-less : tie.Need-loop-less Inv-loop μ-loop
+loop-less c = search needs
+
+loop-again : tie.Need-loop-again Inv-loop μ-loop
+loop-again c = search needs
+
+same-length : tie.Need-same-length Inv-loop μ-loop
+same-length c = search needs
+
+returns : tie.Need-returns Inv-loop μ-loop
+returns c = search needs
+
+pub put-letters-spec : {M : Type 1} → statement M
+put-letters-spec =
+    tie.close
+    (tie.spec
+    Inv-loop
+    μ-loop
+    loop-holds
+    add-put-letter
+    put-letter-requires
+    add-i
+    loop-less
+    loop-again
+    same-length
+    returns)

@@ -1,0 +1,89 @@
+//! The structs of `include/uppinalo.h`, field for field, for all Rust programs here.
+
+#[repr(C)]
+#[derive(Clone, Copy, PartialEq, Eq, Debug, Default)]
+pub struct Axis {
+    pub calendar: u32,
+    pub period: u32,
+    pub mode: u32,
+    pub reference: i64,
+}
+
+#[repr(C)]
+#[derive(Clone, Copy, PartialEq, Eq, Debug, Default)]
+pub struct Date {
+    pub year: i64,
+    pub month: u32,
+    pub day: u32,
+}
+
+#[repr(C)]
+#[derive(Clone, Copy, PartialEq, Eq, Debug, Default)]
+pub struct Fields {
+    pub year: i64,
+    pub month: u32,
+    pub day: u32,
+    pub hour: u32,
+    pub minute: u32,
+    pub second: u32,
+    pub microsecond: u32,
+}
+
+#[repr(C)]
+#[derive(Clone, Copy, PartialEq, Eq, Debug, Default)]
+pub struct AxisAnswer {
+    pub number: u32,
+    pub axis: Axis,
+}
+
+#[repr(C)]
+#[derive(Clone, Copy, PartialEq, Eq, Debug, Default)]
+pub struct Reading {
+    pub number: u32,
+    pub instant: i64,
+    pub exact: bool,
+}
+
+#[repr(C)]
+#[derive(Clone, Copy, PartialEq, Eq, Debug, Default)]
+pub struct OffsetAnswer {
+    pub number: u32,
+    pub offset: i64,
+}
+
+#[repr(C)]
+#[derive(Clone, Copy, PartialEq, Eq, Debug, Default)]
+pub struct FieldsAnswer {
+    pub number: u32,
+    pub fields: Fields,
+}
+
+#[repr(C)]
+#[derive(Clone, Copy, PartialEq, Eq, Debug, Default)]
+pub struct DateAnswer {
+    pub number: u32,
+    pub date: Date,
+}
+
+#[repr(C)]
+#[derive(Clone, Copy, PartialEq, Eq, Debug, Default)]
+pub struct DayAnswer {
+    pub number: u32,
+    pub day: i64,
+}
+
+#[repr(C)]
+#[derive(Clone, Copy, PartialEq, Eq, Debug, Default)]
+pub struct LengthAnswer {
+    pub number: u32,
+    pub length: usize,
+}
+
+#[repr(C)]
+#[derive(Clone, Copy, PartialEq, Eq, Debug, Default)]
+pub struct RunAnswer {
+    pub number: u32,
+    pub place: usize,
+    pub length: usize,
+    pub rounded: usize,
+}

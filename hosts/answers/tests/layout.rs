@@ -1,0 +1,31 @@
+//! The sizes of the structs and the places of their fields, as hosts/layout.c asserts them of include/uppinalo.h.
+
+use answers::*;
+use std::mem::offset_of;
+
+#[test]
+fn arguments() {
+    assert_eq!(size_of::<Axis>(), 24);
+    assert_eq!([offset_of!(Axis, period), offset_of!(Axis, mode), offset_of!(Axis, reference)], [4, 8, 16]);
+    assert_eq!(size_of::<Date>(), 16);
+    assert_eq!([offset_of!(Date, month), offset_of!(Date, day)], [8, 12]);
+    assert_eq!(size_of::<Fields>(), 32);
+    assert_eq!([offset_of!(Fields, month), offset_of!(Fields, day), offset_of!(Fields, hour)], [8, 12, 16]);
+    assert_eq!([offset_of!(Fields, minute), offset_of!(Fields, second), offset_of!(Fields, microsecond)], [20, 24, 28]);
+}
+
+#[test]
+fn results() {
+    assert_eq!((size_of::<AxisAnswer>(), offset_of!(AxisAnswer, axis)), (32, 8));
+    assert_eq!((size_of::<Reading>(), offset_of!(Reading, instant), offset_of!(Reading, exact)), (24, 8, 16));
+    assert_eq!((size_of::<OffsetAnswer>(), offset_of!(OffsetAnswer, offset)), (16, 8));
+    assert_eq!((size_of::<FieldsAnswer>(), offset_of!(FieldsAnswer, fields)), (40, 8));
+    assert_eq!((size_of::<DateAnswer>(), offset_of!(DateAnswer, date)), (24, 8));
+    assert_eq!((size_of::<DayAnswer>(), offset_of!(DayAnswer, day)), (16, 8));
+    assert_eq!((size_of::<LengthAnswer>(), offset_of!(LengthAnswer, length)), (16, 8));
+    assert_eq!(size_of::<RunAnswer>(), 32);
+    assert_eq!(
+        [offset_of!(RunAnswer, place), offset_of!(RunAnswer, length), offset_of!(RunAnswer, rounded)],
+        [8, 16, 24]
+    );
+}

@@ -1,0 +1,98 @@
+//! The comparison of one call: its inputs' source, how many there are to be, and what came of them.
+
+use samples::Random;
+use std::collections::BTreeMap;
+use std::fmt::Debug;
+use std::time::Instant;
+
+#[derive(Clone, Copy, PartialEq)]
+pub enum Scale {
+    Short,
+    Long,
+}
+
+/// How often each number was answered: 0 to 8.
+type Counts = [u64; 9];
+
+pub struct Run {
+    call: &'static str,
+    scale: Scale,
+    start: Instant,
+    kinds: BTreeMap<&'static str, Counts>,
+    differences: u64,
+    pub random: Random,
+}
+
+/// After so many differences of a call the rest are only counted.
+const SHOWN: u64 = 5;
+
+impl Run {
+    pub fn of(call: &'static str, scale: Scale) -> Run {
+        let seed = call.bytes().fold(1582, |seed, byte| seed * 31 + byte as u64);
+        println!("{call}");
+        let (start, random) = (Instant::now(), Random::seeded(seed));
+        Run { call, scale, start, kinds: BTreeMap::new(), differences: 0, random }
+    }
+
+    /// The number of inputs at this scale.
+    pub fn count(&self, short: u64, long: u64) -> u64 {
+        match self.scale {
+            Scale::Short => short,
+            Scale::Long => long,
+        }
+    }
+
+    /// Takes down one input of a kind with the two answers to it.
+    pub fn judge<A: PartialEq + Debug>(
+        &mut self,
+        kind: &'static str,
+        number: u32,
+        input: &dyn Debug,
+        ours: A,
+        second: A,
+    ) {
+        self.kinds.entry(kind).or_default()[number.min(8) as usize] += 1;
+        if ours != second {
+            self.differs(kind, input, &format!("archive {ours:?}\n    second  {second:?}"));
+        }
+    }
+
+    /// Takes down that a lent buffer is not as it should be.
+    pub fn expect(&mut self, kind: &'static str, input: &dyn Debug, is_good: bool, what: &str) {
+        if !is_good {
+            self.differs(kind, input, what);
+        }
+    }
+
+    fn differs(&mut self, kind: &str, input: &dyn Debug, what: &str) {
+        self.differences += 1;
+        if self.differences <= SHOWN {
+            println!("  DIFFERENCE in {}, {kind}\n    input   {input:?}\n    {what}", self.call);
+        }
+    }
+
+    pub fn differences(&self) -> u64 {
+        self.differences
+    }
+
+    pub fn inputs(&self) -> u64 {
+        self.kinds.values().flatten().sum()
+    }
+
+    /// A row for each kind of input, with a column for each number that the call answered.
+    pub fn print(&self) {
+        let numbers: Vec<usize> = (0..9).filter(|&n| self.kinds.values().any(|counts| counts[n] > 0)).collect();
+        let heads: String = numbers.iter().map(|n| format!("{n:>10}")).collect();
+        println!("  {:36}{heads}", "kind of input, and how often each number");
+        for (kind, counts) in &self.kinds {
+            let cells: String = numbers.iter().map(|&n| format!("{:>10}", counts[n])).collect();
+            println!("  {kind:40}{cells}");
+        }
+        println!(
+            "  {} inputs, {} differences, {:.1} s",
+            self.inputs(),
+            self.differences,
+            self.start.elapsed().as_secs_f64()
+        );
+    }
+}

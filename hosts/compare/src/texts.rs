@@ -1,0 +1,106 @@
+//! Texts read and written, each in a lent buffer.
+
+use crate::axes;
+use crate::lent::{Lender, Side};
+use crate::run::Run;
+use samples::texts;
+use second::boundary;
+use std::fmt::{Debug, Formatter};
+
+const MOST: usize = 2000;
+
+/// A calendar name and a text.
+struct Input<'a>(&'a [u8], &'a [u8]);
+
+impl Debug for Input<'_> {
+    fn fmt(&self, out: &mut Formatter) -> std::fmt::Result {
+        write!(out, "\"{}\" \"{}\"", self.0.escape_ascii(), self.1.escape_ascii())
+    }
+}
+
+/// The call of the archive, its counterpart, and the number in an answer.
+struct Calls<A> {
+    archive: fn(&[u8], &[u8]) -> A,
+    second: fn(&[u8], &[u8]) -> A,
+    number: fn(&A) -> u32,
+}
+
+fn side(run: &mut Run) -> Side {
+    if run.random.one_in(2) { Side::Start } else { Side::End }
+}
+
+/// Both read the text; nothing lent is changed.
+fn one_text<A: PartialEq + Debug>(
+    run: &mut Run,
+    lenders: &mut [Lender; 2],
+    kind: &'static str,
+    input: Input,
+    calls: &Calls<A>,
+) {
+    let [for_name, for_text] = lenders;
+    let name = for_name.lend(input.0, side(run));
+    let text = for_text.lend(input.1, side(run));
+    let ours = (calls.archive)(name.buffer, text.buffer);
+    let second = (calls.second)(input.0, input.1);
+    run.judge(kind, (calls.number)(&second), &input, ours, second);
+    let is_kept = *name.buffer == *input.0 && *text.buffer == *input.1 && name.is_intact() && text.is_intact();
+    run.expect(kind, &input, is_kept, "a lent text or what lies beside it is changed");
+}
+
+pub fn read_units(run: &mut Run) {
+    let mut lenders = [Lender::with_room(MOST), Lender::with_room(MOST)];
+    let calls = Calls { archive: uppinalo::read_units, second: boundary::read_units, number: |answer| answer.number };
+    for _ in 0..run.count(400_000, 10_000_000) {
+        let name = texts::calendar_name(&mut run.random);
+        let (kind, text) = texts::units(&mut run.random);
+        one_text(run, &mut lenders, kind, Input(&name, &text), &calls);
+    }
+    let null = unsafe { uppinalo::raw::uppinalo_read_units(std::ptr::null(), 0, std::ptr::null(), 0) };
+    run.judge("empty, null pointers", 3, &"", null, boundary::read_units(b"", b""));
+}
+
+pub fn read_iso(run: &mut Run) {
+    let mut lenders = [Lender::with_room(MOST), Lender::with_room(MOST)];
+    let calls = Calls { archive: uppinalo::read_iso, second: boundary::read_iso, number: |answer| answer.number };
+    for _ in 0..run.count(400_000, 10_000_000) {
+        let name = texts::calendar_name(&mut run.random);
+        let (kind, text) = texts::iso(&mut run.random);
+        one_text(run, &mut lenders, kind, Input(&name, &text), &calls);
+    }
+    let null = unsafe { uppinalo::raw::uppinalo_read_iso(std::ptr::null(), 0, std::ptr::null(), 0) };
+    run.judge("empty, null pointers", 3, &"", null, boundary::read_iso(b"", b""));
+}
+
+/// An instant is written to a room of some length, which holds other bytes before.
+fn one_writing(run: &mut Run, lender: &mut Lender, kind: &'static str, calendar: u32, instant: i64) {
+    let random = &mut run.random;
+    let length = random.pick_or_below(&[0, 1, 10, 20, 26, 27, 27, 28, 28, 29, 40], 100) as usize;
+    let before: Vec<u8> = (0..length).map(|_| random.bits() as u8).collect();
+    let room = lender.lend(&before, side(run));
+    let ours = uppinalo::write_iso(calendar, instant, room.buffer);
+    let mut expected = before;
+    let second = boundary::write_iso(calendar, instant, &mut expected);
+    let input = (calendar, instant, length);
+    run.judge(kind, second.number, &input, ours, second);
+    run.expect(kind, &input, *room.buffer == expected[..], "the room's bytes differ");
+    run.expect(kind, &input, room.is_intact(), "what lies beside the room is changed");
+}
+
+pub fn write_iso(run: &mut Run) {
+    let mut lender = Lender::with_room(MOST);
+    for _ in 0..run.count(400_000, 10_000_000) {
+        let calendar = run.random.below(6) as u32;
+        let instant = axes::instant(&mut run.random, calendar);
+        one_writing(run, &mut lender, "in range, or just past it", calendar, instant);
+        if run.random.one_in(8) {
+            let past = axes::instant_past_range(&mut run.random, calendar);
+            one_writing(run, &mut lender, "past the range", calendar, past);
+        }
+        if run.random.one_in(100) {
+            let unknown = axes::unknown_code(&mut run.random, 6);
+            one_writing(run, &mut lender, "unknown calendar", unknown, instant);
+        }
+    }
+    let null = unsafe { uppinalo::raw::uppinalo_write_iso(0, 0, std::ptr::null_mut(), 0) };
+    run.judge("no room, null pointer", 7, &0, null, boundary::write_iso(0, 0, &mut []));
+}

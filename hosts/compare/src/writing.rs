@@ -1,0 +1,76 @@
+//! Offsets written, from instants and from fields.
+
+use crate::axes;
+use crate::offsets::joined;
+use crate::run::Run;
+use answers::{Axis, Fields};
+use samples::{Random, instants, wholes};
+use second::boundary;
+
+/// An instant that a whole offset reads as, or one near it, or any other.
+fn instant(random: &mut Random, axis: Axis) -> (&'static str, i64) {
+    let calendar = axis.calendar.min(5);
+    let read = boundary::read_whole(axis, wholes::offset(random, axis).1);
+    match random.below(8) {
+        0 => ("any instant", axes::instant(random, calendar)),
+        1 => ("past the range", axes::instant_past_range(random, calendar)),
+        _ if read.number != 0 => ("any instant", axes::instant(random, calendar)),
+        2 => ("a microsecond beside one that is read", read.instant + random.pick(&[-1, 1])),
+        3 => ("some days beside one that is read", read.instant + random.between(-3, 3) * instants::DAY),
+        _ => ("read from an offset", read.instant),
+    }
+}
+
+pub fn write_instant(run: &mut Run) {
+    for _ in 0..run.count(300_000, 5_000_000) {
+        let (axis_kind, axis) = axes::axis(&mut run.random);
+        let (kind, instant) = instant(&mut run.random, axis);
+        let second = boundary::write_instant(axis, instant);
+        run.judge(
+            joined(axis_kind, kind),
+            second.number,
+            &(axis, instant),
+            uppinalo::write_instant(axis, instant),
+            second,
+        );
+    }
+}
+
+/// The fields with one of them changed, most often to what no date has.
+fn damaged(random: &mut Random, fields: Fields) -> (&'static str, Fields) {
+    let any = random.bits() as u32;
+    match random.below(9) {
+        0 => ("month changed", Fields { month: random.pick(&[0, 13, any]), ..fields }),
+        1 => ("day changed", Fields { day: random.pick(&[0, 29, 30, 31, 32, any]), ..fields }),
+        2 => ("hour changed", Fields { hour: random.pick(&[23, 24, any]), ..fields }),
+        3 => ("minute changed", Fields { minute: random.pick(&[59, 60, any]), ..fields }),
+        4 => ("second changed", Fields { second: random.pick(&[59, 60, any]), ..fields }),
+        5 => ("microsecond changed", Fields { microsecond: random.pick(&[999_999, 1_000_000, any]), ..fields }),
+        6 => (
+            "year changed",
+            Fields { year: random.pick(&[0, -1, 1, 1582, 10_000, -10_000, i64::MIN, i64::MAX]), ..fields },
+        ),
+        7 => ("October 1582", Fields { year: 1582, month: 10, day: random.below(33) as u32, ..fields }),
+        _ => {
+            let any = random.bits() as i64;
+            ("year and month changed", Fields { year: random.pick(&[10_000, -10_000, any]), month: 13, ..fields })
+        }
+    }
+}
+
+pub fn write_fields(run: &mut Run) {
+    for _ in 0..run.count(300_000, 5_000_000) {
+        let (axis_kind, axis) = axes::axis(&mut run.random);
+        let (kind, instant) = instant(&mut run.random, axis);
+        let good = boundary::fields_of(axis.calendar.min(5), instant).fields;
+        let (kind, fields) = if run.random.one_in(2) { damaged(&mut run.random, good) } else { (kind, good) };
+        let second = boundary::write_fields(axis, fields);
+        run.judge(
+            joined(axis_kind, kind),
+            second.number,
+            &(axis, fields),
+            uppinalo::write_fields(axis, fields),
+            second,
+        );
+    }
+}

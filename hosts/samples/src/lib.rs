@@ -1,0 +1,12 @@
+//! Inputs for comparisons and measurements, drawn from a seed, so that they are the same on every machine.
+
+pub mod damage;
+pub mod dates;
+pub mod doubles;
+pub mod instants;
+pub mod lines;
+pub mod random;
+pub mod texts;
+pub mod wholes;
+
+pub use random::Random;

@@ -1,0 +1,82 @@
+//! A counterpart for each call of the C boundary, with the same numbers in and out.
+//! A code that is none of the listed ones is refused before anything else: a calendar's, then a period's or a mode's.
+
+use crate::calendar::Date;
+use crate::codes::*;
+use crate::days::{date_of_day, day_of_date};
+use crate::reading::Reading;
+use crate::refusal::Refusal;
+use crate::runs::Refused;
+use crate::{instant, iso, reading, runs, units_text, writing};
+
+pub fn read_units(calendar: &[u8], text: &[u8]) -> answers::AxisAnswer {
+    match units_text::read_units(calendar, text) {
+        Ok(axis) => answers::AxisAnswer { number: 0, axis: axis_codes(axis) },
+        Err(refusal) => answers::AxisAnswer { number: refusal.number(), ..Default::default() },
+    }
+}
+
+pub fn read_iso(calendar: &[u8], text: &[u8]) -> answers::Reading {
+    reading_answer(iso::read_iso(calendar, text).map(|instant| Reading { instant, exact: true }))
+}
+
+pub fn write_iso(calendar: u32, instant: i64, room: &mut [u8]) -> answers::LengthAnswer {
+    match calendar_of(calendar).and_then(|calendar| iso::write_iso(calendar, instant, room)) {
+        Ok(length) => answers::LengthAnswer { number: 0, length },
+        Err(refusal) => answers::LengthAnswer { number: refusal.number(), ..Default::default() },
+    }
+}
+
+pub fn fields_of(calendar: u32, instant: i64) -> answers::FieldsAnswer {
+    match calendar_of(calendar).and_then(|calendar| instant::fields_of(calendar, instant)) {
+        Ok(fields) => answers::FieldsAnswer { number: 0, fields: field_numbers(fields) },
+        Err(refusal) => answers::FieldsAnswer { number: refusal.number(), ..Default::default() },
+    }
+}
+
+pub fn date_of_day_number(calendar: u32, day: i64) -> answers::DateAnswer {
+    let date = |calendar| date_of_day(calendar, day as i128).ok_or(Refusal::OutOfRange);
+    match calendar_of(calendar).and_then(date) {
+        Ok(date) => answers::DateAnswer { number: 0, date: date_numbers(date) },
+        Err(refusal) => answers::DateAnswer { number: refusal.number(), ..Default::default() },
+    }
+}
+
+/// A year past the range is refused before a date that does not exist.
+pub fn day_number_of_date(calendar: u32, date: answers::Date) -> answers::DayAnswer {
+    let answers::Date { year, month, day } = date;
+    let number = |calendar| match year {
+        -9999..=9999 => day_of_date(calendar, Date::new(year, month, day)).ok_or(Refusal::NoSuchDate),
+        _ => Err(Refusal::OutOfRange),
+    };
+    match calendar_of(calendar).and_then(number) {
+        Ok(day) => answers::DayAnswer { number: 0, day },
+        Err(refusal) => answers::DayAnswer { number: refusal.number(), ..Default::default() },
+    }
+}
+
+pub fn read_whole(axis: answers::Axis, offset: i64) -> answers::Reading {
+    reading_answer(axis_of(axis).and_then(|axis| reading::read_whole(axis, offset)))
+}
+
+pub fn read_double(axis: answers::Axis, offset: f64) -> answers::Reading {
+    reading_answer(axis_of(axis).and_then(|axis| reading::read_double(axis, offset)))
+}
+
+pub fn write_instant(axis: answers::Axis, instant: i64) -> answers::OffsetAnswer {
+    offset_answer(axis_of(axis).and_then(|axis| writing::write_instant(axis, instant)))
+}
+
+pub fn write_fields(axis: answers::Axis, fields: answers::Fields) -> answers::OffsetAnswer {
+    offset_answer(axis_of(axis).and_then(|axis| writing::write_fields(axis, fields_of_numbers(fields))))
+}
+
+pub fn read_wholes(axis: answers::Axis, source: &[i64], destination: &mut [i64]) -> answers::RunAnswer {
+    let axis = axis_of(axis).map_err(|refusal| Refused { refusal, place: 0 });
+    run_answer(axis.and_then(|axis| runs::read_wholes(axis, source, destination)))
+}
+
+pub fn read_doubles(axis: answers::Axis, source: &[f64], destination: &mut [i64]) -> answers::RunAnswer {
+    let axis = axis_of(axis).map_err(|refusal| Refused { refusal, place: 0 });
+    run_answer(axis.and_then(|axis| runs::read_doubles(axis, source, destination)))
+}

@@ -1,0 +1,19 @@
+//! The refusals of document 01, "Numbers returned".
+
+#[derive(Clone, Copy, PartialEq, Eq, Debug)]
+pub enum Refusal {
+    TextTooLong = 1,
+    UnknownCalendar = 2,
+    IllFormed = 3,
+    NoSuchDate = 4,
+    OutOfRange = 5,
+    Inexact = 6,
+    NoRoom = 7,
+    NotFinite = 8,
+}
+
+impl Refusal {
+    pub fn number(self) -> u32 {
+        self as u32
+    }
+}

@@ -1,0 +1,101 @@
+//! The cases by hand of document 01.
+
+use second::axis::{Axis, Mode, Period};
+use second::calendar::{Calendar, Date};
+use second::instant::{Fields, fields_of};
+use second::iso::{iso_text, read_iso};
+use second::reading::{read_double, read_whole};
+use second::refusal::Refusal;
+use second::units_text::read_units;
+use second::writing::{write_fields, write_instant};
+
+fn axis(calendar: &str, units: &str) -> Axis {
+    read_units(calendar.as_bytes(), units.as_bytes()).expect(units)
+}
+
+/// The ISO text of a whole offset on an axis.
+fn shown(calendar: &str, units: &str, offset: i64) -> String {
+    let axis = axis(calendar, units);
+    let reading = read_whole(axis, offset).expect(units);
+    assert!(reading.exact);
+    iso_text(axis.calendar, reading.instant).unwrap()
+}
+
+#[track_caller]
+fn expect(calendar: &str, units: &str, offset: i64, start: &str) {
+    let text = shown(calendar, units, offset);
+    let midnight = format!("{start}T00:00:00.000000Z");
+    assert_eq!(text, if start.len() > 11 { start.to_string() } else { midnight });
+}
+
+#[test]
+fn days_of_each_calendar() {
+    expect("standard", "days since 1582-10-04", 1, "1582-10-15");
+    expect("proleptic_gregorian", "days since 1582-10-04", 1, "1582-10-05");
+    expect("standard", "days since -1-12-31", 1, "0001-01-01");
+    expect("julian", "days since 1900-02-28", 1, "1900-02-29");
+    expect("360_day", "days since 2023-02-30", 1, "2023-03-01");
+    expect("noleap", "days since 2000-02-28", 1, "2000-03-01");
+}
+
+#[test]
+fn fixed_months_and_years() {
+    expect("standard", "months since 1930-01-01", 1, "1930-01-31T10:29:03.831225Z");
+    expect("standard", "years since 1850-01-01", 10, "1860-01-01T10:07:39.747000Z");
+}
+
+#[test]
+fn calendar_months() {
+    expect("standard", "calendar months since 1930-01-31", 1, "1930-02-28");
+    expect("standard", "calendar months since 1582-09-10", 1, "1582-10-04");
+}
+
+#[test]
+fn zone() {
+    expect("standard", "hours since 1930-01-01 00:30 +01:00", 1, "1930-01-01T00:30:00.000000Z");
+}
+
+#[test]
+fn tie() {
+    let reading = read_double(axis("standard", "seconds since 1970-01-01"), 3.0 / 128.0).unwrap();
+    assert_eq!((reading.instant, reading.exact), (23_438, false));
+}
+
+#[test]
+fn last_days() {
+    expect("standard", "days since 1970-01-01", 2_932_896, "9999-12-31");
+    expect("360_day", "days since 1970-01-01", 2_890_799, "9999-12-30");
+    let past = |calendar, offset| read_whole(axis(calendar, "days since 1970-01-01"), offset);
+    assert_eq!(past("standard", 2_932_897), Err(Refusal::OutOfRange));
+    assert_eq!(past("360_day", 2_890_800), Err(Refusal::OutOfRange));
+}
+
+#[test]
+fn written_months() {
+    let axis = axis("standard", "calendar months since 1930-01-31");
+    let at = |text: &str| read_iso(b"standard", text.as_bytes()).unwrap();
+    assert_eq!(write_instant(axis, at("1930-02-28")), Ok(1));
+    assert_eq!(write_instant(axis, at("1930-02-27")), Err(Refusal::Inexact));
+    let midnight = |day| Fields { date: Date::new(1930, 2, day), hour: 0, minute: 0, second: 0, microsecond: 0 };
+    assert_eq!(write_fields(axis, midnight(28)), Ok(1));
+    assert_eq!(write_fields(axis, midnight(27)), Err(Refusal::Inexact));
+}
+
+#[test]
+fn refused_units() {
+    let refused = |text: &str| read_units(b"standard", text.as_bytes()).unwrap_err().number();
+    assert_eq!(refused("days since 1582-10-05"), 4);
+    assert_eq!(refused("ss since 1970"), 3);
+    assert_eq!(refused("days since 1970-01-01Z"), 3);
+}
+
+/// The slips that document 01 names at its end.
+#[test]
+fn slips() {
+    assert_eq!(fields_of(Calendar::Standard, -1).unwrap().date, Date::new(1969, 12, 31));
+    expect("standard", "calendar months since 1930-01-31", 2, "1930-03-31");
+    expect("standard", "calendar years since -1-06-01", 1, "0001-06-01");
+    expect("standard", "calendar months since 1930-03-01 00:30 +01:00", 1, "1930-03-28T23:30:00.000000Z");
+    let year = Axis { calendar: Calendar::Standard, period: Period::Year, mode: Mode::Calendar, reference: 0 };
+    assert_eq!(write_instant(year, read_iso(b"", b"-1-01-01").unwrap()), Ok(-1970));
+}

@@ -1,0 +1,99 @@
+//! Faults that the comparison tests must find, one at a time: UPPINALO_FAULT names it, and the call with the fault has the name's start.
+
+use answers::*;
+use second::boundary;
+use std::sync::OnceLock;
+
+const DAY: i64 = 86_400_000_000;
+
+/// Whether a fault is asked for.
+pub fn is_on(fault: &str) -> bool {
+    static CHOSEN: OnceLock<String> = OnceLock::new();
+    CHOSEN.get_or_init(|| std::env::var("UPPINALO_FAULT").unwrap_or_default()) == fault
+}
+
+/// The days of negative instants are found by division toward zero.
+pub fn fields_of_toward_zero(calendar: u32, instant: i64) -> FieldsAnswer {
+    let is_late = instant < 0 && instant % DAY != 0;
+    boundary::fields_of(calendar, if is_late { instant + DAY } else { instant })
+}
+
+/// The double is multiplied and rounded by the machine, twice.
+pub fn read_double_by_the_machine(axis: Axis, x: f64) -> Reading {
+    let right = boundary::read_double(axis, x);
+    if right.number != 0 || axis.mode == 1 {
+        return right;
+    }
+    let period = second::axis::PERIODS[axis.period as usize].microseconds();
+    Reading { instant: axis.reference.wrapping_add((x * period as f64).round_ties_even() as i64), ..right }
+}
+
+/// The product of offset and period wraps.
+pub fn read_whole_wrapping(axis: Axis, offset: i64) -> Reading {
+    if axis.mode == 1 || boundary::read_whole(axis, 0).number != 0 {
+        return boundary::read_whole(axis, offset);
+    }
+    let period = second::axis::PERIODS[axis.period as usize].microseconds();
+    let instant = axis.reference.wrapping_add(offset.wrapping_mul(period));
+    match boundary::fields_of(axis.calendar, instant).number {
+        0 => Reading { number: 0, instant, exact: true },
+        number => Reading { number, ..Default::default() },
+    }
+}
+
+/// The offsets before a refused one are written.
+pub fn read_wholes_up_to_refusal(axis: Axis, source: &[i64], destination: &mut [i64]) -> RunAnswer {
+    let answer = boundary::read_wholes(axis, source, destination);
+    if answer.number == 5 {
+        boundary::read_wholes(axis, &source[..answer.place], destination);
+    }
+    answer
+}
+
+/// The bytes beyond the text are cleared.
+pub fn write_iso_and_clear(calendar: u32, instant: i64, room: &mut [u8]) -> LengthAnswer {
+    let answer = boundary::write_iso(calendar, instant, room);
+    if answer.number == 0 {
+        room[answer.length..].fill(0);
+    }
+    answer
+}
+
+/// A microsecond too many is not noticed where the offset is negative.
+pub fn write_instant_not_exact(axis: Axis, instant: i64) -> OffsetAnswer {
+    let answer = boundary::write_instant(axis, instant);
+    if answer.number == 6 && instant < axis.reference { boundary::write_instant(axis, instant - 1) } else { answer }
+}
+
+/// `t` stands for `T`.
+pub fn read_iso_lower_case(name: &[u8], text: &[u8]) -> Reading {
+    let text: Vec<u8> = text.iter().map(|&byte| if byte == b't' { b'T' } else { byte }).collect();
+    boundary::read_iso(name, &text)
+}
+
+/// A space at the end is let through.
+pub fn read_units_with_space(name: &[u8], text: &[u8]) -> AxisAnswer {
+    boundary::read_units(name, text.strip_suffix(b" ").unwrap_or(text))
+}
+
+/// `standard` is shown with a year 0.
+pub fn date_of_day_with_year_0(calendar: u32, day: i64) -> DateAnswer {
+    let mut answer = boundary::date_of_day_number(calendar, day);
+    if calendar == 0 && answer.date.year < 0 {
+        answer.date.year += 1;
+    }
+    answer
+}
+
+/// The dropped days of 1582 count as 1582-10-15.
+pub fn day_of_date_in_the_gap(calendar: u32, date: Date) -> DayAnswer {
+    let answer = boundary::day_number_of_date(calendar, date);
+    let is_dropped = calendar == 0 && (date.year, date.month) == (1582, 10) && (5..15).contains(&date.day);
+    if is_dropped { boundary::day_number_of_date(0, Date { day: 15, ..date }) } else { answer }
+}
+
+/// A date that does not exist is refused before a year past the range.
+pub fn write_fields_4_before_5(axis: Axis, fields: Fields) -> OffsetAnswer {
+    let answer = boundary::write_fields(axis, fields);
+    if answer.number == 5 && fields.month > 12 { OffsetAnswer { number: 4, offset: 0 } } else { answer }
+}

@@ -1,0 +1,134 @@
+//! The second program behind the C boundary: it stands in for the archive, to try the tests and the benchmark themselves.
+//! A fault may be asked for, to see that the comparison tests find it (`faults`).
+
+mod faults;
+
+use answers::*;
+use second::boundary;
+use std::slice;
+
+/// What a pointer and a length lend; the pointer of an empty run may be null.
+unsafe fn lent<'a, T>(start: *const T, length: usize) -> &'a [T] {
+    if length == 0 { &[] } else { unsafe { slice::from_raw_parts(start, length) } }
+}
+
+unsafe fn lent_mut<'a, T>(start: *mut T, length: usize) -> &'a mut [T] {
+    if length == 0 { &mut [] } else { unsafe { slice::from_raw_parts_mut(start, length) } }
+}
+
+#[unsafe(no_mangle)]
+unsafe extern "C" fn uppinalo_read_units(
+    name: *const u8,
+    name_len: usize,
+    text: *const u8,
+    text_len: usize,
+) -> AxisAnswer {
+    let (name, text) = unsafe { (lent(name, name_len), lent(text, text_len)) };
+    if faults::is_on("read_units_with_space") {
+        return faults::read_units_with_space(name, text);
+    }
+    boundary::read_units(name, text)
+}
+
+#[unsafe(no_mangle)]
+unsafe extern "C" fn uppinalo_read_iso(name: *const u8, name_len: usize, text: *const u8, text_len: usize) -> Reading {
+    let (name, text) = unsafe { (lent(name, name_len), lent(text, text_len)) };
+    if faults::is_on("read_iso_lower_case") {
+        return faults::read_iso_lower_case(name, text);
+    }
+    boundary::read_iso(name, text)
+}
+
+#[unsafe(no_mangle)]
+unsafe extern "C" fn uppinalo_write_iso(calendar: u32, instant: i64, room: *mut u8, room_len: usize) -> LengthAnswer {
+    let room = unsafe { lent_mut(room, room_len) };
+    if faults::is_on("write_iso_and_clear") {
+        return faults::write_iso_and_clear(calendar, instant, room);
+    }
+    boundary::write_iso(calendar, instant, room)
+}
+
+#[unsafe(no_mangle)]
+extern "C" fn uppinalo_fields_of(calendar: u32, instant: i64) -> FieldsAnswer {
+    if faults::is_on("fields_of_toward_zero") {
+        return faults::fields_of_toward_zero(calendar, instant);
+    }
+    boundary::fields_of(calendar, instant)
+}
+
+#[unsafe(no_mangle)]
+extern "C" fn uppinalo_date_of_day(calendar: u32, day: i64) -> DateAnswer {
+    if faults::is_on("date_of_day_with_year_0") {
+        return faults::date_of_day_with_year_0(calendar, day);
+    }
+    boundary::date_of_day_number(calendar, day)
+}
+
+#[unsafe(no_mangle)]
+extern "C" fn uppinalo_day_of_date(calendar: u32, date: Date) -> DayAnswer {
+    if faults::is_on("day_of_date_in_the_gap") {
+        return faults::day_of_date_in_the_gap(calendar, date);
+    }
+    boundary::day_number_of_date(calendar, date)
+}
+
+#[unsafe(no_mangle)]
+extern "C" fn uppinalo_read_whole(axis: Axis, offset: i64) -> Reading {
+    if faults::is_on("read_whole_wrapping") {
+        return faults::read_whole_wrapping(axis, offset);
+    }
+    boundary::read_whole(axis, offset)
+}
+
+#[unsafe(no_mangle)]
+extern "C" fn uppinalo_read_double(axis: Axis, offset: f64) -> Reading {
+    if faults::is_on("read_double_by_the_machine") {
+        return faults::read_double_by_the_machine(axis, offset);
+    }
+    boundary::read_double(axis, offset)
+}
+
+#[unsafe(no_mangle)]
+extern "C" fn uppinalo_write_instant(axis: Axis, instant: i64) -> OffsetAnswer {
+    if faults::is_on("write_instant_not_exact") {
+        return faults::write_instant_not_exact(axis, instant);
+    }
+    boundary::write_instant(axis, instant)
+}
+
+#[unsafe(no_mangle)]
+extern "C" fn uppinalo_write_fields(axis: Axis, fields: Fields) -> OffsetAnswer {
+    if faults::is_on("write_fields_4_before_5") {
+        return faults::write_fields_4_before_5(axis, fields);
+    }
+    boundary::write_fields(axis, fields)
+}
+
+#[unsafe(no_mangle)]
+unsafe extern "C" fn uppinalo_read_wholes(
+    axis: Axis,
+    source: *const i64,
+    n: usize,
+    destination: *mut i64,
+    room: usize,
+) -> RunAnswer {
+    let (source, destination) = unsafe { (lent(source, n), lent_mut(destination, room)) };
+    if faults::is_on("read_wholes_up_to_refusal") {
+        return faults::read_wholes_up_to_refusal(axis, source, destination);
+    }
+    boundary::read_wholes(axis, source, destination)
+}
+
+#[unsafe(no_mangle)]
+unsafe extern "C" fn uppinalo_read_doubles(
+    axis: Axis,
+    source: *const f64,
+    n: usize,
+    destination: *mut i64,
+    room: usize,
+) -> RunAnswer {
+    if faults::is_on("read_doubles_past_the_end") && n > 0 && room == n {
+        unsafe { destination.add(n).write(0) };
+    }
+    unsafe { boundary::read_doubles(axis, lent(source, n), lent_mut(destination, room)) }
+}

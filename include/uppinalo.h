@@ -1,0 +1,84 @@
+/* The C boundary of Uppinalo.
+ *
+ * Every answer is a struct by value. Its `number` is 0, or that of a refusal, and then every other field is zero, but for
+ * the place of a run's refused offset, and nothing lent is written. A lent run or text may be empty, with a null pointer.
+ * Lent buffers do not overlap.
+ *
+ * number  1 text over 128 bytes    2 unknown calendar    3 ill-formed text, or no such period or mode
+ *         4 no such date           5 out of range        6 no such whole offset, or a double that is not whole
+ *         7 too little room        8 double not finite
+ */
+#ifndef UPPINALO_H
+#define UPPINALO_H
+
+#include <stdbool.h>
+#include <stddef.h>
+#include <stdint.h>
+
+#ifdef __cplusplus
+extern "C" {
+#endif
+
+enum {
+    UPPINALO_STANDARD = 0,
+    UPPINALO_PROLEPTIC_GREGORIAN = 1,
+    UPPINALO_JULIAN = 2,
+    UPPINALO_NOLEAP = 3,
+    UPPINALO_ALL_LEAP = 4,
+    UPPINALO_360_DAY = 5
+};
+
+enum {
+    UPPINALO_SECOND = 0,
+    UPPINALO_MILLISECOND = 1,
+    UPPINALO_MINUTE = 2,
+    UPPINALO_HOUR = 3,
+    UPPINALO_DAY = 4,
+    UPPINALO_WEEK = 5,
+    UPPINALO_MONTH = 6,
+    UPPINALO_YEAR = 7
+};
+
+enum { UPPINALO_FIXED = 0, UPPINALO_CALENDAR = 1 };
+
+/* A struct of zeros is the zero axis: standard, fixed seconds, reference instant 0. */
+typedef struct { uint32_t calendar, period, mode; int64_t reference; } uppinalo_axis;
+typedef struct { int64_t year; uint32_t month, day; } uppinalo_date;
+typedef struct { int64_t year; uint32_t month, day, hour, minute, second, microsecond; } uppinalo_fields;
+
+typedef struct { uint32_t number; uppinalo_axis axis; } uppinalo_axis_answer;
+typedef struct { uint32_t number; int64_t instant; bool exact; } uppinalo_reading;
+typedef struct { uint32_t number; int64_t offset; } uppinalo_offset_answer;
+typedef struct { uint32_t number; uppinalo_fields fields; } uppinalo_fields_answer;
+typedef struct { uint32_t number; uppinalo_date date; } uppinalo_date_answer;
+typedef struct { uint32_t number; int64_t day; } uppinalo_day_answer;
+typedef struct { uint32_t number; size_t length; } uppinalo_length_answer;
+typedef struct { uint32_t number; size_t place, length, rounded; } uppinalo_run_answer;
+
+/* Texts: the calendar's name, empty for standard, and a units text or an ISO text. */
+uppinalo_axis_answer uppinalo_read_units(const uint8_t *calendar, size_t calendar_len, const uint8_t *text, size_t text_len);
+uppinalo_reading uppinalo_read_iso(const uint8_t *calendar, size_t calendar_len, const uint8_t *text, size_t text_len);
+
+/* Instants: their ISO text has 27 bytes, or 28 in negative years; bytes of the room after it stay. */
+uppinalo_length_answer uppinalo_write_iso(uint32_t calendar, int64_t instant, uint8_t *room, size_t room_len);
+uppinalo_fields_answer uppinalo_fields_of(uint32_t calendar, int64_t instant);
+
+/* Days, counted from 1970-01-01 of their calendar. */
+uppinalo_date_answer uppinalo_date_of_day(uint32_t calendar, int64_t day);
+uppinalo_day_answer uppinalo_day_of_date(uint32_t calendar, uppinalo_date date);
+
+/* One offset on an axis. */
+uppinalo_reading uppinalo_read_whole(uppinalo_axis axis, int64_t offset);
+uppinalo_reading uppinalo_read_double(uppinalo_axis axis, double offset);
+uppinalo_offset_answer uppinalo_write_instant(uppinalo_axis axis, int64_t instant);
+uppinalo_offset_answer uppinalo_write_fields(uppinalo_axis axis, uppinalo_fields fields);
+
+/* A run of n offsets, read whole or not at all into a destination with room for at least n instants. */
+uppinalo_run_answer uppinalo_read_wholes(uppinalo_axis axis, const int64_t *source, size_t n, int64_t *destination, size_t room);
+uppinalo_run_answer uppinalo_read_doubles(uppinalo_axis axis, const double *source, size_t n, int64_t *destination, size_t room);
+
+#ifdef __cplusplus
+}
+#endif
+
+#endif
