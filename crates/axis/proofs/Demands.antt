@@ -14,7 +14,6 @@ use lib.IntN.{ℤ}
 use lib.Ieee.{Float}
 use Rattle.refusal.specs.declared.Refusal.{Refusal}
 use Rattle.refusal.specs.declared.Refusal.the-variants.{OutOfRange, Inexact}
-use Rattle.signed.proofs.Tests.{left-out, right-out}
 use Rattle.calendar.specs.declared.Calendar.{Calendar}
 use Rattle.period.specs.declared.Period.{Period}
 use Rattle.period.specs.declared.Period.the-variants.{Month, Year}
@@ -25,11 +24,11 @@ use Rattle.double.specs.declared.Reading.{Reading}
 use Rattle.double.specs.declared.whole.Whole.{Whole}
 use Rattle.step.specs.Months.{monthsAfter, yearsAfter}
 use Rattle.step.specs.Answers.{monthsBetween, yearsBetween}
-use Rattle.fixed_axis.specs.Fixed.{timeAfter, readWhole, readDouble, inPeriods, writeInstant}
+use Rattle.fixed_axis.specs.Fixed.{readWhole, readDouble, writeInstant}
 use Rattle.fixed_axis.specs.declared.OffsetAnswer.{OffsetAnswer}
 use Rattle.fixed_axis.proofs.Offsets.{read-of}
 use Rattle.fixed_axis.proofs.Demands as Fixed
-use Rattle.axis.specs.Axis.{stepOf, dateAt, readMoved, writeMoved, readStep, writeStep, asWhole, doubleAsWhole, wholeIn, doubleIn, writeIn, readWholeOn, readDoubleOn, writeInstantOn}
+use Rattle.axis.specs.Axis.{stepOf, dateAt, readStep, writeStep, asWhole, doubleAsWhole, wholeIn, doubleIn, writeIn, readWholeOn, readDoubleOn, writeInstantOn}
 use Rattle.axis.specs.Demands.{Inverse}
 use Rattle.axis.specs.declared.Axis.{Axis}
 use Rattle.axis.specs.declared.Step.{Step}
