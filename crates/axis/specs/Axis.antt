@@ -26,7 +26,7 @@ use Rattle.step.specs.Answers.{monthsBetween, yearsBetween}
 use Rattle.step.specs.declared.StepAnswer.{StepAnswer}
 use Rattle.fixed_axis.specs.Fixed.{fromReference, readWhole, readDouble, writeInstant}
 use Rattle.fixed_axis.specs.declared.OffsetAnswer.{OffsetAnswer}
-use Rattle.axis.specs.declared.Axis.{Axis}
+use Rattle.axis_record.specs.declared.Axis.{Axis}
 use Rattle.axis.specs.declared.Offset.{Offset}
 use Rattle.axis.specs.declared.Step.{Step}
 

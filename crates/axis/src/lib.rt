@@ -6,6 +6,7 @@ ghost use Rattle.instant.specs.Instant.{isClock, clockTime, dateIn};
 ghost use Rattle.step.specs.Months.{monthsAfter, yearsAfter};
 ghost use Rattle.step.specs.Answers.{monthsBetween, yearsBetween};
 ghost use Rattle.axis.specs.Axis.{stepOf, onDate, readMoved, writeMoved, offsetFrom, readStep, writeStep, doubleAsWhole, readWholeOn, readDoubleOn, readOffset, writeInstantOn, writeFieldsOn};
+use axis_record::Axis;
 use calendar::Calendar;
 use calendar::Date;
 use calendar::DateAnswer;
@@ -19,13 +20,6 @@ use period::Mode;
 use period::Period;
 use refusal::Refusal;
 use step::StepAnswer;
-
-pub struct Axis {
-    pub calendar: Calendar,
-    pub period: Period,
-    pub mode: Mode,
-    pub reference: i64,
-}
 
 pub enum Offset {
     Whole(i64),

@@ -1,18 +1,20 @@
 -- What `read_date` promises, in terms of the date rule alone: the rule derives the text with the date that is read, and derives no text
 -- that is refused.
 use Prim.Native.Nat.{ℕ}
-use mathlib.Core.Path.{_≡_, refl}
+use mathlib.Core.Path.{_≡_, refl, sym, ap}
 use mathlib.Core.Bool.{true, false}
 use mathlib.Core.List.{List}
 use mathlib.Core.Logic.{_↔_}
-use mathlib.Core.Option.{none, some}
+use mathlib.Core.Option.{Option, none, some}
 use Rattle.grammar.specs.Grammar.{within, inside, starts, Derives}
 use Rattle.grammar.specs.Reader.{nullable, first, front, back, scan, whole, read}
 use Rattle.grammar.specs.Clear.{extends, outside, apart, clear}
 use Rattle.grammar.specs.Rules.{bytes}
 use Rattle.grammar.proofs.Reading.{reads, derives, refused, underived, single}
 use Rattle.date_text.specs.declared.Written.{Written}
+use Rattle.date_text.specs.declared.WrittenAnswer.{WrittenAnswer}
 use Rattle.date_text.specs.DateRule.{midnight, utc, date}
+use Rattle.date_text.specs.Answers.{writtenAnswer}
 
 -- in the date rule the next byte tells which way each choice goes
 pub date-clear : clear date ≡ true
@@ -27,6 +29,15 @@ date-refused s = (refused date s date-clear, underived date s)
 
 pub date-single : (s : List ℕ) (v w : Written) → Derives date s v → Derives date s w → v ≡ w
 date-single s v w = single date s v w date-clear
+
+-- what an answer says of the text
+abbrev pub writtenValue : WrittenAnswer → Option Written
+writtenValue (WrittenAnswer.Read w) = some w
+writtenValue WrittenAnswer.Refused = none
+
+pub written-back : (o : Option Written) (r : WrittenAnswer) → r ≡ writtenAnswer o → o ≡ writtenValue r
+written-back none r e = ap writtenValue (sym e)
+written-back (some w) r e = ap writtenValue (sym e)
 
 -- some texts: a year alone; every field; a zone behind UTC; and three that are refused, since a zone follows a time only, T is a capital,
 -- and a zone's colon belongs to its minutes

@@ -1,10 +1,11 @@
 -- Classes of bytes: joined, apart, and the longest front of a text in one.
-use Prim.Native.Nat.{ℕ}
+use Prim.Native.Nat.{ℕ, _≤_}
 use native.Mathlib.Omega.{arith}
 use mathlib.Core.Path.{_≡_, refl, sym, ap, _∙_}
 use mathlib.Core.Bool.{Bool, true, false, _||_, cond}
 use mathlib.Core.List.{List, [], _∷_, _++_}
 use lib.Dec.{leb, ltb}
+use lib.ListN.{length}
 use borrow.Author.Tests.{ltb-true, leb-true}
 use Rattle.grammar.specs.Grammar.{Range, Class, inside, within, every, starts}
 use Rattle.grammar.specs.Reader.{front, back}
@@ -29,6 +30,18 @@ starts-append c d (b ∷ s) = within-append c d b
 
 pub starts-neither : (c d : Class) (s : List ℕ) → starts (c ++ d) s ≡ false → (starts c s ≡ false) × (starts d s ≡ false)
 starts-neither c d s e = or-neither (starts c s) (starts d s) (sym (starts-append c d s) ∙ e)
+
+-- ---- a text that is in a class as a whole
+
+pub every-append : (c : Class) (s t : List ℕ) → every c s ≡ true → every c t ≡ true → every c (s ++ t) ≡ true
+unfolding every
+every-append c [] t p q = q
+every-append c (b ∷ s) t p q = let h = and-parts (within c b) (every c s) p in rw (h .0) (every-append c s t (h .1) q)
+
+pub starts-every : (c : Class) (s : List ℕ) → 1 ≤ length s → every c s ≡ true → starts c s ≡ true
+unfolding every starts
+starts-every c [] l e = absurd (omega arith)
+starts-every c (b ∷ s) l e = and-parts (within c b) (every c s) e .0
 
 -- ---- classes that are apart have no byte in common
 

@@ -3,14 +3,17 @@ use Prim.Native.Nat.{ℕ, suc, _+_, _-_, _*_, _^_, _≤_, _<_}
 use native.Mathlib.Omega.{arith}
 use native.Mathlib.Numerals.{add-one}
 use native.Mathlib.Nat.{pow-zero, pow-succ', pow-le-pow-right, one-le-pow, suc-mul, mul-assoc, mul-le-mul-left, mul-le-mul-right}
-use mathlib.Core.Path.{_≡_, ap}
-use mathlib.Core.Bool.{true}
+use mathlib.Core.Path.{_≡_, refl, ap}
+use mathlib.Core.Bool.{Bool, true, false, cond}
 use mathlib.Core.List.{List, [], _∷_}
+use mathlib.Core.Option.{none, some}
+use lib.Dec.{leb}
+use borrow.Author.Tests.{leb-true}
 use lib.ListN.{length, getD, drop, drop-of-length-le}
 use lib.Seq.{drop-cons}
-use Rattle.grammar.specs.Grammar.{within, every}
-use Rattle.grammar.specs.Rules.{span, numeral}
-use Rattle.grammar.proofs.Tests.{and-parts}
+use Rattle.grammar.specs.Grammar.{within, every, Derives}
+use Rattle.grammar.specs.Rules.{span, numeral, decimal, number}
+use Rattle.grammar.proofs.Tests.{none-some, and-parts}
 use Rattle.grammar.proofs.Places.{span-parts}
 
 module _ (base zero : ℕ) where
@@ -51,3 +54,12 @@ module _ (base zero : ℕ) where
 
   pub numeral-end : (d : List ℕ) (v i : ℕ) → length d ≤ i → numeral base zero v (drop i d) ≡ numeral base zero 0 d → v ≡ numeral base zero 0 d
   numeral-end d v i h q = rw (drop-of-length-le d h) at q
+
+-- a number of at most hi digits
+pub number-below : (hi : ℕ) (s : List ℕ) (v : ℕ) → Derives (number hi) s v → v < 10 ^ hi
+unfolding Derives
+number-below hi s v (a, d, e) = go (leb (length s) hi) refl e
+  where
+    go : (b : Bool) → leb (length s) hi ≡ b → cond b (some (decimal 0 s)) none ≡ some v → v < 10 ^ hi
+    go true l x = let y : decimal 0 s ≡ v = cc in rw (← y) (numeral-below 10 48 (omega arith) s hi d (leb-true (length s) hi l))
+    go false l x = none-some x

@@ -10,11 +10,11 @@ use mathlib.Core.Option.{Option, none, some}
 use lib.ListN.{length, getD, drop, drop-of-length-le}
 use lib.Seq.{drop-cons}
 use borrow.Author.Tests.{le-leb, lt-leb}
-use Rattle.grammar.specs.Grammar.{Class, within, every, starts, Grammar, one, run, _▸_, _or_, maybe, give}
+use Rattle.grammar.specs.Grammar.{Class, starts, Grammar, one, run, _▸_, _or_, maybe, give}
 use Rattle.grammar.specs.Reader.{Scanned, found, nothing, front, back, valued, paired, given, nullable, first, scan, whole, read}
 use Rattle.grammar.specs.Rules.{_⇒_, span, digit, decimal, number, two, either, spelled}
-use Rattle.grammar.proofs.Tests.{and-parts, or-left}
-use Rattle.grammar.proofs.Classes.{starts-append, front-every}
+use Rattle.grammar.proofs.Tests.{or-left}
+use Rattle.grammar.proofs.Classes.{starts-append, starts-every, front-every}
 use Rattle.grammar.proofs.Places.{starts-lt, starts-within, span-parts}
 
 -- ---- one step of each constructor
@@ -123,12 +123,7 @@ run-is h c val x o e f = rw (e, f)
 
 -- a run that may start with any byte of its class
 pub run-all : {A : Type 0} (c : Class) (val : List ℕ → Option A) (x : List ℕ) (o : Option A) → 1 ≤ length (front c x) → val (front c x) ≡ o → scan (run c c val) x ≡ valued o (back c x)
-unfolding starts every
-run-all c val x o l e = run-is c c val x o (head (front c x) l (front-every c x)) e
-  where
-    head : (p : List ℕ) → 1 ≤ length p → every c p ≡ true → starts c p ≡ true
-    head [] l w = absurd (omega arith)
-    head (b ∷ p) l w = and-parts (within c b) (every c p) w .0
+run-all c val x o l e = run-is c c val x o (starts-every c (front c x) l (front-every c x)) e
 
 -- ---- numbers
 

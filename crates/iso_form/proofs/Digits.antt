@@ -10,7 +10,7 @@ use lib.ListN.{length, length-append}
 use borrow.Author.Tests.{le-leb}
 use Rattle.grammar.specs.Grammar.{inside, within, every, starts, Derives}
 use Rattle.grammar.specs.Rules.{digit, decimal, number}
-use Rattle.grammar.proofs.Tests.{and-parts}
+use Rattle.grammar.proofs.Classes.{every-append, starts-every}
 use Rattle.date_text.specs.DateRule.{fraction}
 use Rattle.iso_form.specs.Form.{two, four, six}
 
@@ -39,28 +39,16 @@ places-decimal (suc k) n h =
     let e = places-decimal k (n / 10) (omega arith) in
     decimal-last 0 (n % 10 + 48) (places k (n / 10)) ∙ rw e (omega arith)
 
-every-append : (s t : List ℕ) → every digit s ≡ true → every digit t ≡ true → every digit (s ++ t) ≡ true
-unfolding every
-every-append [] t p q = q
-every-append (b ∷ s) t p q =
-    let h = and-parts (within digit b) (every digit s) p in
-    rw (h .0) (every-append s t (h .1) q)
-
 places-every : (k n : ℕ) → every digit (places k n) ≡ true
 unfolding every within inside
 places-every zero n = refl
 places-every (suc k) n =
-    every-append (places k (n / 10)) ((n % 10 + 48) ∷ []) (places-every k (n / 10))
+    every-append digit (places k (n / 10)) ((n % 10 + 48) ∷ []) (places-every k (n / 10))
     (rw (le-leb 48 (n % 10 + 48) (omega arith), le-leb (n % 10 + 48) 57 (omega arith)))
 
 places-length : (k n : ℕ) → length (places k n) ≡ k
 places-length zero n = refl
 places-length (suc k) n = omega (arith, length-append (places k (n / 10)) ((n % 10 + 48) ∷ []), places-length k (n / 10))
-
-starts-every : (s : List ℕ) → 1 ≤ length s → every digit s ≡ true → starts digit s ≡ true
-unfolding starts every
-starts-every [] l e = absurd (omega arith)
-starts-every (b ∷ s) l e = and-parts (within digit b) (every digit s) e .0
 
 -- a number of at most k digits is what its last k digits are derived with
 module _ (k n : ℕ) (l : 1 ≤ k) (h : n < 10 ^ k) where
@@ -68,7 +56,7 @@ module _ (k n : ℕ) (l : 1 ≤ k) (h : n < 10 ^ k) where
   unfolding Derives
   number-written =
       let s = places-length k n in
-      (starts-every (places k n) (omega arith) (places-every k n), places-every k n, rw (le-leb (length (places k n)) k (omega arith)) (ap some (places-decimal k n h)))
+      (starts-every digit (places k n) (omega arith) (places-every k n), places-every k n, rw (le-leb (length (places k n)) k (omega arith)) (ap some (places-decimal k n h)))
 
 pub two-written : (n : ℕ) → n ≤ 99 → Derives (number 2) (two n) n
 two-written n h = rw (two-places n) (number-written 2 n (omega arith) (omega arith))

@@ -1,4 +1,3 @@
 pub mod Texts
-pub mod Packed
 pub mod Words
 pub mod Steps

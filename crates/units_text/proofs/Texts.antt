@@ -1,11 +1,11 @@
 -- What `read_units` promises, in terms of the units rule alone: the rule derives the text with the units that are read, and derives no
 -- text that is refused.
 use Prim.Native.Nat.{ℕ}
-use mathlib.Core.Path.{_≡_, refl}
+use mathlib.Core.Path.{_≡_, refl, sym, ap}
 use mathlib.Core.Bool.{true, false}
 use mathlib.Core.List.{List}
 use mathlib.Core.Logic.{_↔_}
-use mathlib.Core.Option.{none, some}
+use mathlib.Core.Option.{Option, none, some}
 use Rattle.grammar.specs.Grammar.{within, inside, starts, Derives}
 use Rattle.grammar.specs.Reader.{nullable, first, front, back, scan, whole, read}
 use Rattle.grammar.specs.Clear.{extends, outside, apart, clear}
@@ -15,7 +15,9 @@ use Rattle.period.specs.declared.Period.{Period}
 use Rattle.period.specs.declared.Mode.{Mode}
 use Rattle.date_text.specs.DateRule.{midnight}
 use Rattle.units_text.specs.declared.Units.{Units}
+use Rattle.units_text.specs.declared.UnitsAnswer.{UnitsAnswer}
 use Rattle.units_text.specs.UnitsRule.{units}
+use Rattle.units_text.specs.Answers.{unitsAnswer}
 
 -- in the units text the next byte tells which way each choice goes
 pub units-clear : clear units ≡ true
@@ -30,6 +32,15 @@ units-refused s = (refused units s units-clear, underived units s)
 
 pub units-single : (s : List ℕ) (u v : Units) → Derives units s u → Derives units s v → u ≡ v
 units-single s u v = single units s u v units-clear
+
+-- what an answer says of the text
+abbrev pub unitsValue : UnitsAnswer → Option Units
+unitsValue (UnitsAnswer.Read u) = some u
+unitsValue UnitsAnswer.Refused = none
+
+pub units-back : (o : Option Units) (r : UnitsAnswer) → r ≡ unitsAnswer o → o ≡ unitsValue r
+units-back none r e = ap unitsValue (sym e)
+units-back (some u) r e = ap unitsValue (sym e)
 
 -- some texts, two of them refused
 examples : (read units (bytes "days since 1850-01-01") ≡ some (record { mode = Mode.Fixed; period = Period.Day; reference = record { negative = false; year = 1850; month = 1; day = 1; time = midnight } }))

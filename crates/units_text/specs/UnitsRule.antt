@@ -1,11 +1,11 @@
 -- The units text of document 01 as grammar data: the period words, and the rule around them.
 use Prim.Native.Nat.{ℕ}
 use Prim.Native.String.{String}
-use mathlib.Core.Bool.{Bool, false, _||_, cond}
 use mathlib.Core.List.{List, [], _∷_, _++_}
-use mathlib.Core.Option.{Option, none, some}
+use mathlib.Core.Option.{some}
 use Rattle.grammar.specs.Grammar.{Grammar, run, _▸_, give}
-use Rattle.grammar.specs.Rules.{_⇒_, bytes, range, anyOf, optional, word, same}
+use Rattle.grammar.specs.Rules.{_⇒_, bytes, range, anyOf, optional, word}
+use Rattle.word_table.specs.Table.{Row, row, lookup}
 use Rattle.period.specs.declared.Period.{Period}
 use Rattle.period.specs.declared.Period.the-variants.{Second, Millisecond, Minute, Hour, Day, Week, Month, Year}
 use Rattle.period.specs.declared.Mode.{Mode}
@@ -15,13 +15,6 @@ use Rattle.units_text.specs.declared.Units.{Units}
 
 -- ---- period words
 
-pub record Row : Type 0 where
-  pub words : List (List ℕ)
-  pub period : Period
-
-abbrev pub row : List (List ℕ) → Period → Row
-row w p = record { words = w; period = p }
-
 -- a word as it stands; and one that may end in one more s
 abbrev pub alone : String → List (List ℕ)
 alone w = bytes w ∷ []
@@ -30,26 +23,17 @@ abbrev pub plural : String → List (List ℕ)
 plural w = bytes w ∷ (bytes w ++ bytes "s") ∷ []
 
 -- document 01, "Periods": the table's words, row by row
-abbrev pub periodWords : List Row
+abbrev pub periodWords : List (Row Period)
 periodWords =
-    row (plural "msec" ++ plural "millisec") Millisecond
-    ∷ row (alone "s" ++ plural "sec" ++ plural "second") Second
-    ∷ row (plural "min" ++ plural "minute") Minute
-    ∷ row (plural "hr" ++ plural "hour") Hour
+    row (plural "millisec" ++ plural "msec") Millisecond
+    ∷ row (plural "second" ++ plural "sec" ++ alone "s") Second
+    ∷ row (plural "minute" ++ plural "min") Minute
+    ∷ row (plural "hour" ++ plural "hr") Hour
     ∷ row (plural "day") Day
     ∷ row (plural "week") Week
-    ∷ row (plural "mon" ++ plural "month") Month
-    ∷ row (plural "yr" ++ plural "year") Year
+    ∷ row (plural "month" ++ plural "mon") Month
+    ∷ row (plural "year" ++ plural "yr") Year
     ∷ []
-
--- the period in whose row a word stands
-abbrev pub among : List (List ℕ) → List ℕ → Bool
-among [] w = false
-among (n ∷ t) w = same w n || among t w
-
-abbrev pub lookup : List Row → List ℕ → Option Period
-lookup [] w = none
-lookup (r ∷ t) w = cond (among (r .words) w) (some (r .period)) (lookup t w)
 
 -- a word of the table. That it starts with one of these letters tells it from the word calendar by its first letter; the table implies it
 abbrev pub periodWord : Grammar Period

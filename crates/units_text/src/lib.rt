@@ -10,8 +10,8 @@ ghost use Rattle.grammar.specs.Reader.{scan, read};
 ghost use Rattle.grammar.specs.Rules.{span};
 ghost use Rattle.grammar.specs.Answers.{endIn};
 ghost use Rattle.date_text.specs.Answers.{writtenIn};
-ghost use Rattle.units_text.specs.Packed.{packed};
-ghost use Rattle.units_text.specs.UnitsRule.{periodWords, lookup, periodWord, spaces, mode, since, units};
+ghost use Rattle.word_table.specs.Table.{lookup};
+ghost use Rattle.units_text.specs.UnitsRule.{periodWords, periodWord, spaces, mode, since, units};
 ghost use Rattle.units_text.specs.Answers.{meaningOf, periodIn, modeIn, unitsAnswer};
 use date_text::Written;
 use date_text::WrittenAt;
@@ -24,6 +24,7 @@ use grammar::starts_in;
 use grammar::word_at;
 use period::Mode;
 use period::Period;
+use word_table::packed_of;
 
 // What a units text says.
 pub struct Units {
@@ -55,31 +56,10 @@ pub enum UnitsAnswer {
     Refused,
 }
 
-fn wide(b: u8) -> u64
-    ensures { λ r. ⌜ r ≡ b ⌝ }
-{
-    b as u64
-}
-
-// A word of at most eight bytes as one number.
-fn packed_of(d: &[u8]) -> u64
-    requires { ⌜ length (now d) ≤ 8 ⌝ }
-    requires { ⌜ every (span 1 255) (now d) ≡ true ⌝ }
-    ensures { λ r. ⌜ r ≡ packed (now (d .entry)) ⌝ }
-{
-    let mut v: u64 = 0;
-    let mut i = 0;
-    while i < d.len() {
-        let b = wide(d[i]);
-        v = v * 256 + b;
-        i += 1;
-    }
-    v
-}
-
 // What a word means in the table of period words. A word of at most eight letters is looked up as one number,
 // two hexadecimal digits a letter; only one word is longer.
 fn period_of(d: &[u8]) -> Meaning
+    requires { ⌜ 1 ≤ length (now d) ⌝ }
     requires { ⌜ every (span 97 122) (now d) ≡ true ⌝ }
     ensures { λ r. ⌜ lookup periodWords (now (d .entry)) ≡ meaningOf r ⌝ }
 {
@@ -91,24 +71,24 @@ fn period_of(d: &[u8]) -> Meaning
     }
     let w = packed_of(d);
     match w {
-        // msec, msecs, millisec
-        0x6d736563 | 0x6d73656373 | 0x6d696c6c69736563 => Meaning::Is(Period::Millisecond),
-        // s, sec, secs, second, seconds
-        0x73 | 0x736563 | 0x73656373 | 0x7365636f6e64 | 0x7365636f6e6473 => Meaning::Is(
+        // millisec, msec, msecs
+        0x6d696c6c69736563 | 0x6d736563 | 0x6d73656373 => Meaning::Is(Period::Millisecond),
+        // second, seconds, sec, secs, s
+        0x7365636f6e64 | 0x7365636f6e6473 | 0x736563 | 0x73656373 | 0x73 => Meaning::Is(
             Period::Second,
         ),
-        // min, mins, minute, minutes
-        0x6d696e | 0x6d696e73 | 0x6d696e757465 | 0x6d696e75746573 => Meaning::Is(Period::Minute),
-        // hr, hrs, hour, hours
-        0x6872 | 0x687273 | 0x686f7572 | 0x686f757273 => Meaning::Is(Period::Hour),
+        // minute, minutes, min, mins
+        0x6d696e757465 | 0x6d696e75746573 | 0x6d696e | 0x6d696e73 => Meaning::Is(Period::Minute),
+        // hour, hours, hr, hrs
+        0x686f7572 | 0x686f757273 | 0x6872 | 0x687273 => Meaning::Is(Period::Hour),
         // day, days
         0x646179 | 0x64617973 => Meaning::Is(Period::Day),
         // week, weeks
         0x7765656b | 0x7765656b73 => Meaning::Is(Period::Week),
-        // mon, mons, month, months
-        0x6d6f6e | 0x6d6f6e73 | 0x6d6f6e7468 | 0x6d6f6e746873 => Meaning::Is(Period::Month),
-        // yr, yrs, year, years
-        0x7972 | 0x797273 | 0x79656172 | 0x7965617273 => Meaning::Is(Period::Year),
+        // month, months, mon, mons
+        0x6d6f6e7468 | 0x6d6f6e746873 | 0x6d6f6e | 0x6d6f6e73 => Meaning::Is(Period::Month),
+        // year, years, yr, yrs
+        0x79656172 | 0x7965617273 | 0x7972 | 0x797273 => Meaning::Is(Period::Year),
         _ => Meaning::Nothing,
     }
 }

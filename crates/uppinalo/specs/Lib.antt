@@ -1,2 +1,4 @@
 pub mod Codes
 pub mod Days
+pub mod Texts
+pub mod Offsets

@@ -2,15 +2,16 @@
 use borrow.Author.Needs.{needs}
 use native.Mathlib.Omega.{arith}
 use mathlib.Core.Path.{sym, ap, _∙_}
-use lib.ListN.{drop}
+use lib.ListN.{drop, length}
 use Rattle.grammar.specs.Grammar.{starts}
 use Rattle.grammar.specs.Reader.{found}
 use Rattle.grammar.specs.Rules.{bytes, span, anyOf}
+use Rattle.word_table.specs.Table.{lookup}
 use Rattle.grammar.proofs.Classes.{front-every}
 use Rattle.grammar.proofs.Places.{run-end, run-part, run-left}
 use Rattle.grammar.proofs.Steps.{run-empty, run-no, run-is}
 use Rattle.units_text.specs.Answers.{meaningOf}
-use Rattle.units_text.specs.UnitsRule.{periodWords, lookup}
+use Rattle.units_text.specs.UnitsRule.{periodWords}
 use Rattle.units_text.proofs.period_at.Statement.{statement}
 use Rattle.units_text.proofs.period_at.Tie as tie
 
@@ -39,7 +40,8 @@ period-of-requires : tie.Need-period-of-requires
 period-of-requires c κs =
     let r = c .before .before .before .before .before in
     let a = r .before .before .args in
-    rw (run-part (span 97 122) (a .s .now) (a .at) (r .run-end .result) (r .run-end .ensures)) (front-every (span 97 122) (drop (a .at) (a .s .now)))
+    let p = run-part (span 97 122) (a .s .now) (a .at) (r .run-end .result) (r .run-end .ensures) in
+    (omega (arith, ap length p), rw p (front-every (span 97 122) (drop (a .at) (a .s .now))))
 
 enum-known-p : tie.Need-enum-known-p
 enum-known-p c = search needs

@@ -1,4 +1,4 @@
--- CLOSED FORM: a word as one number, which a private function computes; proofs/Packed.antt joins it to the table of period words.
+-- CLOSED FORM: a word as one number, by which functions look a word up; proofs/Words.antt joins it to `lookup`.
 use Prim.Native.Nat.{ℕ}
 use mathlib.Core.List.{List}
 use Rattle.grammar.specs.Rules.{numeral}

@@ -1,17 +1,17 @@
--- `units_text::packed_of` meets its contract. The loop's invariant: with the bytes that are left, the value so far makes the whole number.
+-- `word_table::packed_of` meets its contract. The loop's invariant: with the bytes that are left, the value so far makes the whole number.
 -- So no value on the way is above that number, which fits eight bytes.
 use borrow.Author.Needs.{needs}
-use Prim.Native.Nat.{ℕ, _+_, _-_, _*_, _≤_, _<_}
 use native.Mathlib.Omega.{arith}
+use Prim.Native.Nat.{ℕ, _+_, _-_, _*_, _≤_, _<_}
 use mathlib.Core.Path.{_≡_, refl}
 use mathlib.Core.List.{List}
 use lib.ListN.{length, drop}
 use Rattle.grammar.specs.Rules.{numeral}
 use Rattle.grammar.proofs.Numerals.{numeral-below, numeral-next, numeral-end}
-use Rattle.units_text.specs.Packed.{packed}
-use Rattle.units_text.proofs.Packed.{wider}
-use Rattle.units_text.proofs.packed_of.Statement.{statement}
-use Rattle.units_text.proofs.packed_of.Tie as tie
+use Rattle.word_table.specs.Packed.{packed}
+use Rattle.word_table.proofs.Packed.{are-bytes}
+use Rattle.word_table.proofs.packed_of.Statement.{statement}
+use Rattle.word_table.proofs.packed_of.Tie as tie
 
 abbrev Inv-loop : tie.InvT-loop
 Inv-loop d v₀ i₀ v i = (i ≤ length d) × (numeral 256 0 v (drop i d) ≡ packed d)
@@ -44,7 +44,7 @@ turn c =
     record {
       next = rw z at (n .0);
       grows = rw z at (n .1);
-      small = numeral-below 256 0 (omega arith) d 8 (wider 1 255 0 255 d (omega arith) (omega arith) (start .pre .1)) (start .pre .0);
+      small = numeral-below 256 0 (omega arith) d 8 (are-bytes d (λ i. omega (arith, c .before .shared-slice-known2 .given i))) (start .pre);
     }
 
 mul-v : tie.Need-mul-v Inv-loop μ-loop

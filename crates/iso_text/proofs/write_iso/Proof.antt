@@ -1,0 +1,75 @@
+-- `iso_text::write_iso` meets its contract: the fields of the instant, written in the one form; on a refusal nothing is written.
+use borrow.Author.Needs.{needs}
+use mathlib.Core.Path.{_≡_, sym, ap, _∙_}
+use mir.ValLaws.{toZ-ofZ}
+use mir.Syntax.{w64}
+use mir.ValLaws.{toZ-ofZ}
+use mir.Syntax.{w64}
+use mir.ValLaws.{toZ-ofZ}
+use mir.Syntax.{w64}
+use Rattle.date_text.specs.declared.Written.{Written}
+use Rattle.instant.specs.Instant.{fieldsAnswer}
+use Rattle.instant.specs.declared.FieldsAnswer.{FieldsAnswer}
+use Rattle.iso_form.specs.Form.{isoText, lengthAnswer, over}
+use Rattle.iso_text.specs.Iso.{lengthOf, roomOf, writeIso, roomIso}
+use Rattle.iso_text.proofs.Laws.{fields-year}
+use Rattle.iso_text.proofs.write_iso.Statement.{statement}
+use Rattle.iso_text.proofs.write_iso.Tie as tie
+
+-- the answer is that of the instant
+answer : (a : tie.After-fields-of) → a .fields-of .result ≡ fieldsAnswer (a .before .before .args .c) (a .before .before .args .t)
+answer a = let st = a .before .before in a .fields-of .ensures ∙ ap (fieldsAnswer (st .args .c)) (toZ-ofZ w64 (st .args .t) (st .fits .t))
+
+fields-of-requires : tie.Need-fields-of-requires
+fields-of-requires c κs = search needs
+
+enum-known-r : tie.Need-enum-known-r
+enum-known-r c = search needs
+
+returns : tie.Need-returns
+unfolding writeIso roomIso
+returns c =
+    let a = c .before .before .before in
+    let st = a .before .before in
+    let e = sym (c .before .r .given .1) ∙ answer a in
+    (ap (λ (o : FieldsAnswer). lengthOf o (st .args .room .now)) e, ap (λ (o : FieldsAnswer). roomOf o (st .args .room .now)) e)
+
+enum-known-f : tie.Need-enum-known-f
+enum-known-f c = search needs
+
+written-of-requires : tie.Need-written-of-requires
+written-of-requires c κs =
+    let a = c .before .before .before in
+    let st = a .before .before in
+    fields-year (st .args .c) (st .args .t) _ (sym (answer a) ∙ c .before .f .given .1)
+
+write-form-requires : tie.Need-write-form-requires
+write-form-requires c κs = search needs
+
+same-length : tie.Need-same-length
+same-length c = search needs
+
+returns-2 : tie.Need-returns-2
+unfolding writeIso roomIso
+returns-2 c =
+    let w = c .before .before .before .before in
+    let a = w .before .before .before .before in
+    let st = a .before .before in
+    let e = sym (w .before .before .f .given .1) ∙ answer a in
+    let room = st .args .room .now in (
+      c .before .before .write-form .ensures .0 ∙ (ap (λ (v : Written). lengthAnswer (isoText v) room) (w .written-of .ensures) ∙ ap (λ (o : FieldsAnswer). lengthOf o room) e),
+      c .before .before .write-form .ensures .1 ∙ (ap (λ (v : Written). over (isoText v) room) (w .written-of .ensures) ∙ ap (λ (o : FieldsAnswer). roomOf o room) e),
+    )
+
+pub write-iso-spec : {M : Type 1} → statement M
+write-iso-spec =
+    tie.close
+    (tie.spec
+    fields-of-requires
+    enum-known-r
+    returns
+    enum-known-f
+    written-of-requires
+    write-form-requires
+    same-length
+    returns-2)

@@ -1,0 +1,26 @@
+-- `uppinalo::codes::axis_code` meets its contract. Assumes nothing.
+use mir.Syntax.{w64}
+use mir.Val.{SFits}
+use mir.ValLaws.{toZ-ofZ}
+use borrow.Author.Needs.{needs}
+use Rattle.uppinalo.proofs.codes.axis_code.Statement.{statement}
+use Rattle.uppinalo.proofs.codes.axis_code.Tie as tie
+
+calendar-code-requires : tie.Need-calendar-code-requires
+calendar-code-requires c κs = search needs
+
+period-code-requires : tie.Need-period-code-requires
+period-code-requires c κs = search needs
+
+mode-code-requires : tie.Need-mode-code-requires
+mode-code-requires c κs = search needs
+
+returns : tie.Need-returns
+returns c =
+    let s = c .before .before .before .before in
+    let f : SFits w64 (s .args .a .reference) = search needs in
+    λ i. record { calendar = c .before .before .before .calendar-code .ensures i; period = c .before .before .period-code .ensures i; mode = c .before .mode-code .ensures i; reference = toZ-ofZ w64 (s .args .a .reference) f i }
+
+pub axis-code-spec : {M : Type 1} → statement M
+axis-code-spec =
+    tie.close (tie.spec calendar-code-requires period-code-requires mode-code-requires returns)

@@ -1,0 +1,18 @@
+-- `uppinalo::codes::mode_of` meets its contract. Assumes nothing.
+use mathlib.Core.Path.{sym, ap}
+use Rattle.uppinalo.specs.Codes.{modeOf}
+use Rattle.uppinalo.proofs.Unknown.{unknown-mode}
+use Rattle.uppinalo.proofs.codes.mode_of.Statement.{statement}
+use Rattle.uppinalo.proofs.codes.mode_of.Tie as tie
+
+returns : tie.Need-returns
+returns c = ap modeOf (sym (c .if1 .taken))
+
+returns-2 : tie.Need-returns-2
+returns-2 c = ap modeOf (sym (c .if2 .taken))
+
+returns-3 : tie.Need-returns-3
+returns-3 c = unknown-mode (c .before .before .args .code) (c .before .if1 .left) (c .if2 .left)
+
+pub mode-of-spec : {M : Type 1} → statement M
+mode-of-spec = tie.close (tie.spec returns returns-2 returns-3)

@@ -1,0 +1,63 @@
+-- `uppinalo::texts::uppinalo_write_iso` meets its contract. Assumes nothing.
+use mathlib.Core.Path.{sym, ap, _∙_}
+use lib.IntN.{ℤ}
+use mir.Syntax.{w64}
+use mir.ValLaws.{toZ-ofZ}
+use Rattle.iso_text.specs.Iso.{writeIso, roomIso}
+use Rattle.uppinalo.specs.Texts.{ofLength, lengthIn, roomIn}
+use Rattle.uppinalo.specs.declared.codes.CodedCalendar.{CodedCalendar}
+use borrow.Author.Needs.{needs}
+use Rattle.uppinalo.proofs.texts.uppinalo_write_iso.Statement.{statement}
+use Rattle.uppinalo.proofs.texts.uppinalo_write_iso.Tie as tie
+
+calendar-of-requires : tie.Need-calendar-of-requires
+calendar-of-requires c κs = search needs
+
+enum-told : tie.Need-enum-told
+enum-told c = search needs
+
+no-length-requires : tie.Need-no-length-requires
+no-length-requires c κs = search needs
+
+returns : tie.Need-returns
+returns c =
+    let a = c .before .before .before .before .before .args in
+    let k = sym (c .before .enum-told .given .1) ∙ c .before .before .before .calendar-of .ensures in
+    (c .no-length .ensures ∙ ap (λ (x : CodedCalendar). lengthIn x (a .instant) (a .room .now)) k, ap (λ (x : CodedCalendar). roomIn x (a .instant) (a .room .now)) k)
+
+enum-known-c : tie.Need-enum-known-c
+enum-known-c c = search needs
+
+write-iso-requires : tie.Need-write-iso-requires
+write-iso-requires c κs = search needs
+
+of-length-requires : tie.Need-of-length-requires
+of-length-requires c κs = search needs
+
+same-length : tie.Need-same-length
+same-length c = search needs
+
+returns-2 : tie.Need-returns-2
+returns-2 c =
+    let s = c .before .before .before .before .before .before .before .before .before .before in
+    let a = s .args in
+    let w = c .before .before .before .write-iso in
+    let k = sym (c .before .before .before .before .before .before .c .given .1) ∙ c .before .before .before .before .before .before .before .before .calendar-of .ensures in
+    let t = toZ-ofZ w64 (a .instant) (s .fits .instant) in (
+      c .of-length .ensures ∙ (ap ofLength (w .ensures .0 ∙ ap (λ (z : ℤ). writeIso (c .before .before .before .before .before .before .c .given .0 .0) z (a .room .now)) t) ∙ ap (λ (x : CodedCalendar). lengthIn x (a .instant) (a .room .now)) k),
+      w .ensures .1 ∙ (ap (λ (z : ℤ). roomIso (c .before .before .before .before .before .before .c .given .0 .0) z (a .room .now)) t ∙ ap (λ (x : CodedCalendar). roomIn x (a .instant) (a .room .now)) k),
+    )
+
+pub uppinalo-write-iso-spec : {M : Type 1} → statement M
+uppinalo-write-iso-spec =
+    tie.close
+    (tie.spec
+    calendar-of-requires
+    enum-told
+    no-length-requires
+    returns
+    enum-known-c
+    write-iso-requires
+    of-length-requires
+    same-length
+    returns-2)

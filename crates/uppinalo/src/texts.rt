@@ -1,0 +1,126 @@
+// Units text and ISO text.
+ghost use mathlib.Core.Path.{_≡_};
+ghost use Rattle.iso_text.specs.Iso.{readIso};
+ghost use Rattle.axis_text.specs.Units.{readUnits};
+ghost use Rattle.uppinalo.specs.Codes.{calendarOf};
+ghost use Rattle.uppinalo.specs.Texts.{noLength, ofLength, lengthIn, roomIn, ofInstant, noAxis, ofAxis};
+use crate::codes;
+use crate::codes::CodedCalendar;
+use crate::codes::UppinaloAxis;
+use axis_text::AxisAnswer;
+use instant::InstantAnswer;
+use iso_form::LengthAnswer;
+use refusal::Refusal;
+
+#[repr(C)]
+pub struct UppinaloReading {
+    pub number: u32,
+    pub instant: i64,
+    pub exact: bool,
+}
+
+#[repr(C)]
+pub struct UppinaloLengthAnswer {
+    pub number: u32,
+    pub length: usize,
+}
+
+#[repr(C)]
+pub struct UppinaloAxisAnswer {
+    pub number: u32,
+    pub axis: UppinaloAxis,
+}
+
+fn of_instant(a: InstantAnswer) -> UppinaloReading
+    ensures { λ r. ⌜ r ≡ ofInstant a ⌝ }
+{
+    match a {
+        InstantAnswer::Is(instant) => return UppinaloReading {
+            number: 0,
+            instant,
+            exact: true,
+        },
+        InstantAnswer::Refused(r) => return UppinaloReading {
+            number: refusal::number(r),
+            instant: 0,
+            exact: false,
+        },
+    }
+}
+
+// The instant of an ISO text, in the calendar of a name. What is read is exact.
+#[no_mangle]
+pub extern "C" fn uppinalo_read_iso(calendar: &[u8], text: &[u8]) -> UppinaloReading
+    ensures { λ r. ⌜ r ≡ ofInstant (readIso (now (calendar .entry)) (now (text .entry))) ⌝ }
+{
+    of_instant(iso_text::read_iso(calendar, text))
+}
+
+fn no_axis(r: Refusal) -> UppinaloAxisAnswer
+    ensures { λ a. ⌜ a ≡ noAxis r ⌝ }
+{
+    let axis = UppinaloAxis {
+        calendar: 0,
+        period: 0,
+        mode: 0,
+        reference: 0,
+    };
+    UppinaloAxisAnswer {
+        number: refusal::number(r),
+        axis,
+    }
+}
+
+fn of_axis(a: AxisAnswer) -> UppinaloAxisAnswer
+    ensures { λ r. ⌜ r ≡ ofAxis a ⌝ }
+{
+    match a {
+        AxisAnswer::Is(x) => {
+            let axis = codes::axis_code(x);
+            return UppinaloAxisAnswer { number: 0, axis };
+        }
+        AxisAnswer::Refused(r) => return no_axis(r),
+    }
+}
+
+// The axis of a units text, in the calendar of a name.
+#[no_mangle]
+pub extern "C" fn uppinalo_read_units(calendar: &[u8], text: &[u8]) -> UppinaloAxisAnswer
+    ensures { λ r. ⌜ r ≡ ofAxis (readUnits (now (calendar .entry)) (now (text .entry))) ⌝ }
+{
+    of_axis(axis_text::read_units(calendar, text))
+}
+
+fn no_length(r: Refusal) -> UppinaloLengthAnswer
+    ensures { λ a. ⌜ a ≡ noLength r ⌝ }
+{
+    UppinaloLengthAnswer {
+        number: refusal::number(r),
+        length: 0,
+    }
+}
+
+fn of_length(a: LengthAnswer) -> UppinaloLengthAnswer
+    ensures { λ r. ⌜ r ≡ ofLength a ⌝ }
+{
+    match a {
+        LengthAnswer::Is(length) => return UppinaloLengthAnswer { number: 0, length },
+        LengthAnswer::Refused(r) => return no_length(r),
+    }
+}
+
+// The ISO text of an instant, written into lent room.
+#[no_mangle]
+pub extern "C" fn uppinalo_write_iso(
+    calendar: u32,
+    instant: i64,
+    room: &mut [u8],
+) -> UppinaloLengthAnswer
+    ensures { λ r. ⌜ r ≡ lengthIn (calendarOf calendar) instant (now (room .entry)) ⌝ }
+    ensures { λ _. ⌜ now (room .exit) ≡ roomIn (calendarOf calendar) instant (now (room .entry)) ⌝ }
+{
+    match codes::calendar_of(calendar) {
+        CodedCalendar::Unknown => return no_length(Refusal::UnknownCalendar),
+        CodedCalendar::Is(c) => return of_length(iso_text::write_iso(c, instant, room)),
+    }
+}

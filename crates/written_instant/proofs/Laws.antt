@@ -1,0 +1,126 @@
+-- Instants with a zone taken off: sums and differences of integers as natural numbers that are raised by 2^63, and the range.
+use mathlib.Core.Path.{_≡_, refl, sym, ap, _∙_}
+use mathlib.Core.Bool.{Bool, true, false, cond}
+use Prim.Native.Nat.{ℕ, zero, suc, _+_, _-_, _≤_, _<_}
+use native.Mathlib.Omega.{arith}
+use lib.IntN.{ℤ, pos, negsuc, negℤ, subℕ, _+ℤ_, _-ℤ_, +ℤ-idr, negℤ-negℤ}
+use lib.Dec.{leb, ltb}
+use borrow.Author.Tests.{leb-true, leb-false, ltb-true, ltb-false, lt-ltb, le-ltb}
+use Rattle.refusal.specs.declared.Refusal.{Refusal}
+use Rattle.signed.specs.Bias.{lower}
+use Rattle.signed.proofs.Differences.{by-sign, sub-low, sub-high, same-diff}
+use Rattle.calendar.specs.Answers.{dateAnswer, pickDateAnswer}
+use Rattle.calendar.specs.Calendar.{dateOf}
+use Rattle.calendar.specs.declared.Calendar.{Calendar}
+use Rattle.calendar.specs.declared.DateAnswer.{DateAnswer}
+use Rattle.instant.specs.Instant.{dayOf, timeOf, inRange, withTime, fieldsAnswer, instantAnswer}
+use Rattle.instant.specs.declared.Fields.{Fields}
+use Rattle.instant.specs.declared.FieldsAnswer.{FieldsAnswer}
+use Rattle.instant.specs.declared.InstantAnswer.{InstantAnswer}
+use Rattle.instant.proofs.Days.{far-before, far-after}
+use Rattle.instant.proofs.Theorems.{shown, fields-of-instant}
+use Rattle.grammar.proofs.Tests.{clash}
+use Rattle.date_text.specs.declared.Zone.{Zone}
+use Rattle.date_text.specs.declared.Written.{Written}
+use Rattle.written_instant.specs.Instants.{signedOf, zoneLength, ahead, ranged, lessZone}
+
+-- ---- sums and differences
+
+sub-plus : (a b s : ℕ) → subℕ a b +ℤ pos s ≡ subℕ (a + s) b
+sub-plus a b s =
+    by-sign (λ (z : ℤ). z +ℤ pos s ≡ subℕ (a + s) b) a b
+    (λ h. same-diff s (suc (b - suc a)) (a + s) b (omega arith))
+    (λ h. ap pos (omega arith) ∙ sym (sub-high (a + s) b (omega arith)))
+
+sub-minus : (a b s : ℕ) → subℕ a b -ℤ pos s ≡ subℕ a (b + s)
+sub-minus a b zero = +ℤ-idr (subℕ a b) ∙ ap (subℕ a) (omega arith)
+sub-minus a b (suc s) =
+    by-sign (λ (z : ℤ). z +ℤ negsuc s ≡ subℕ a (b + suc s)) a b
+    (λ h. ap negsuc (omega arith) ∙ sym (sub-low a (b + suc s) (omega arith)))
+    (λ h. same-diff (a - b) (suc s) a (b + suc s) (omega arith))
+
+-- t is k - 2^63, and m is taken off or added
+module _ (t : ℤ) (k m : ℕ) (e : lower k ≡ t) where
+  pub taken-off : m ≤ k → lower (k - m) ≡ t -ℤ signedOf false m
+  taken-off h = same-diff (k - m) 9223372036854775808 k (9223372036854775808 + m) (omega arith) ∙ sym (sub-minus k 9223372036854775808 m) ∙ ap (λ (z : ℤ). z -ℤ pos m) e
+
+  pub added : lower (k + m) ≡ t -ℤ signedOf true m
+  added = sym (sub-plus k 9223372036854775808 m) ∙ (λ i. e i +ℤ sym (negℤ-negℤ (pos m)) i)
+
+pub signed-minus : (n : ℕ) → n ≤ 9223372036854775808 → lower (9223372036854775808 - n) ≡ signedOf true n
+signed-minus zero h = refl
+signed-minus (suc n) h = sub-low (9223372036854775808 - suc n) 9223372036854775808 (omega arith) ∙ ap negsuc (omega arith)
+
+pub signed-plus : (n : ℕ) → lower (9223372036854775808 + n) ≡ signedOf false n
+signed-plus n = sub-high (9223372036854775808 + n) 9223372036854775808 (omega arith) ∙ ap pos (omega arith)
+
+no-zone : (t : ℤ) (b : Bool) (m : ℕ) → m ≡ 0 → t ≡ t -ℤ signedOf b m
+no-zone t true m e = sym (+ℤ-idr t) ∙ ap (λ (n : ℕ). t -ℤ signedOf true n) (sym e)
+no-zone t false m e = sym (+ℤ-idr t) ∙ ap (λ (n : ℕ). t -ℤ signedOf false n) (sym e)
+
+-- ---- the range
+
+-- an instant in range is less than 2^59 microseconds from 1970
+pub range-low : (c : Calendar) (t : ℤ) (k : ℕ) → lower k ≡ t → inRange c t ≡ true → 8646911284551352320 ≤ k
+range-low c t k e h = go (leb 8646911284551352320 k) refl
+  where
+    go : (b : Bool) → leb 8646911284551352320 k ≡ b → 8646911284551352320 ≤ k
+    go true x = leb-true 8646911284551352320 k x
+    go false x =
+        let l = leb-false 8646911284551352320 k x in
+        clash h (ap (inRange c) (sym e ∙ sub-low k 9223372036854775808 (omega arith)) ∙ far-before c (9223372036854775808 - suc k) (omega arith))
+
+pub range-high : (c : Calendar) (t : ℤ) (k : ℕ) → lower k ≡ t → inRange c t ≡ true → k < 9799832789158199296
+range-high c t k e h = go (ltb k 9799832789158199296) refl
+  where
+    go : (b : Bool) → ltb k 9799832789158199296 ≡ b → k < 9799832789158199296
+    go true x = ltb-true k 9799832789158199296 x
+    go false x =
+        let l = ltb-false k 9799832789158199296 x in
+        clash h (ap (inRange c) (sym e ∙ sub-high k 9223372036854775808 (omega arith)) ∙ far-after c (k - 9223372036854775808) (omega arith))
+
+pub range-in : (c : Calendar) (t : ℤ) (f : Fields) → fieldsAnswer c t ≡ FieldsAnswer.Is f → ranged c t ≡ InstantAnswer.Is t
+range-in c t f h = rw (shown c t f h .inside)
+
+pub range-out : (c : Calendar) (t : ℤ) (r : Refusal) → fieldsAnswer c t ≡ FieldsAnswer.Refused r → ranged c t ≡ InstantAnswer.Refused Refusal.OutOfRange
+unfolding fieldsAnswer dateAnswer
+range-out c t r h = go (inRange c t) h
+  where
+    go : (b : Bool) → withTime (pickDateAnswer b (DateAnswer.Is (dateOf c (dayOf t))) (DateAnswer.Refused Refusal.OutOfRange)) (timeOf t) ≡ FieldsAnswer.Refused r → cond b (InstantAnswer.Is t) (InstantAnswer.Refused Refusal.OutOfRange) ≡ InstantAnswer.Refused Refusal.OutOfRange
+    go true x = absurd (let y : _≡_ {A = ℕ} 0 1 = (cc) in omega arith)
+    go false x = refl
+
+-- the instant of fields lies in range
+pub local-range : (c : Calendar) (f : Fields) (t : ℤ) → instantAnswer c f ≡ InstantAnswer.Is t → inRange c t ≡ true
+local-range c f t h = shown c t f (fields-of-instant c f t h) .inside
+
+-- ---- a local instant less a zone
+
+abbrev pub withYear : ℤ → Written → Fields
+withYear y w =
+    record {
+      year = y;
+      month = w .month;
+      day = w .day;
+      hour = w .time .hour;
+      minute = w .time .minute;
+      second = w .time .second;
+      microsecond = w .time .microsecond;
+    }
+
+module _ (c : Calendar) (z : Zone) (t : ℤ) where
+  pub bad-hours : 24 ≤ z .hours → InstantAnswer.Refused Refusal.NoSuchDate ≡ lessZone c z (InstantAnswer.Is t)
+  bad-hours h = rw (le-ltb (z .hours) 24 h)
+
+  module _ (h : z .hours < 24) where
+    pub bad-minutes : 60 ≤ z .minutes → InstantAnswer.Refused Refusal.NoSuchDate ≡ lessZone c z (InstantAnswer.Is t)
+    bad-minutes m = rw (lt-ltb (z .hours) 24 h, le-ltb (z .minutes) 60 m)
+
+    module _ (m : z .minutes < 60) where
+      pub zone-off : (u : ℤ) → u ≡ t -ℤ ahead z → ranged c u ≡ lessZone c z (InstantAnswer.Is t)
+      zone-off u e = rw (lt-ltb (z .hours) 24 h, lt-ltb (z .minutes) 60 m) (ap (ranged c) e)
+
+      pub zone-zero : inRange c t ≡ true → zoneLength z ≡ 0 → InstantAnswer.Is t ≡ lessZone c z (InstantAnswer.Is t)
+      zone-zero r e =
+          let s : ranged c t ≡ InstantAnswer.Is t = rw r in
+          sym s ∙ zone-off t (no-zone t (z .behind) (zoneLength z) e)

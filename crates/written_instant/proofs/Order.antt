@@ -1,0 +1,57 @@
+-- The order of the refusals of a date that is read: its year has at most four digits, so 4 is given exactly where the date, the time or the
+-- zone does not exist, and then 5 exactly where the instant after the zone lies past the years -9999 to 9999.
+use Prim.Native.Nat.{ℕ, zero, suc, _≤_}
+use native.Mathlib.Omega.{arith}
+use mathlib.Core.Path.{_≡_, refl}
+use mathlib.Core.Bool.{Bool, true, false, cond, _&&_}
+use mathlib.Core.List.{List}
+use mathlib.Core.Option.{some}
+use lib.Dec.{leb}
+use lib.IntN.{ℤ, pos, _+ℤ_, _*ℤ_, _-ℤ_}
+use borrow.Author.Tests.{le-leb}
+use Rattle.refusal.specs.declared.Refusal.{Refusal}
+use Rattle.grammar.specs.Grammar.{Derives}
+use Rattle.grammar.specs.Reader.{read}
+use Rattle.grammar.proofs.Reading.{derives}
+use Rattle.grammar.proofs.Numerals.{number-below}
+use Rattle.calendar.specs.Calendar.{exists, inYears}
+use Rattle.calendar.specs.Answers.{dayNumber, dayAnswer, pickDayAnswer}
+use Rattle.calendar.specs.declared.Calendar.{Calendar}
+use Rattle.calendar.specs.declared.DayAnswer.{DayAnswer}
+use Rattle.instant.specs.Instant.{dayLength, dateIn, isClock, clockTime, pickInstant, withClock, instantAnswer}
+use Rattle.instant.specs.declared.InstantAnswer.{InstantAnswer}
+use Rattle.date_text.specs.declared.Written.{Written}
+use Rattle.date_text.specs.DateRule.{date}
+use Rattle.written_instant.specs.Instants.{signedOf, localFields, isZone, ahead, ranged, lessZone, writtenInstant}
+
+-- a date that is read has a year of at most four digits
+pub year-read : (s : List ℕ) (w : Written) → read date s ≡ some w → w .year ≤ 9999
+unfolding Derives
+year-read s w e = go (derives date s w e)
+  where
+    go : Derives date s w → w .year ≤ 9999
+    go (a, (p, q, f, d, (p1, q1, g, n, m)), x) = let h = number-below 4 p1 (a .1 .0) n in rw x (omega arith)
+
+-- the date, the time and the zone exist
+abbrev pub existsWritten : Calendar → Written → Bool
+existsWritten c w = (exists c (dateIn (localFields w)) && isClock (localFields w)) && isZone (w .time .zone)
+
+abbrev pub localInstant : Calendar → Written → ℤ
+localInstant c w = dayNumber c (dateIn (localFields w)) *ℤ pos dayLength +ℤ pos (clockTime (localFields w))
+
+signed-in : (b : Bool) (n : ℕ) → n ≤ 9999 → inYears (signedOf b n) ≡ true
+signed-in true zero h = refl
+signed-in true (suc n) h = rw (le-leb n 9998 (omega arith))
+signed-in false n h = le-leb n 9999 h
+
+pub written-order : (c : Calendar) (w : Written) → w .year ≤ 9999 → writtenInstant c w ≡ cond (existsWritten c w) (ranged c (localInstant c w -ℤ ahead (w .time .zone))) (InstantAnswer.Refused Refusal.NoSuchDate)
+unfolding writtenInstant instantAnswer dayAnswer
+written-order c w h = rw (signed-in (w .negative) (w .year) h) (go (exists c (dateIn (localFields w))))
+  where
+    clocked : (b : Bool) → lessZone c (w .time .zone) (pickInstant b (InstantAnswer.Is (localInstant c w)) (InstantAnswer.Refused Refusal.NoSuchDate)) ≡ cond (b && isZone (w .time .zone)) (ranged c (localInstant c w -ℤ ahead (w .time .zone))) (InstantAnswer.Refused Refusal.NoSuchDate)
+    clocked true = refl
+    clocked false = refl
+
+    go : (a : Bool) → lessZone c (w .time .zone) (withClock (pickDayAnswer a (DayAnswer.Is (dayNumber c (dateIn (localFields w)))) (DayAnswer.Refused Refusal.NoSuchDate)) (localFields w)) ≡ cond ((a && isClock (localFields w)) && isZone (w .time .zone)) (ranged c (localInstant c w -ℤ ahead (w .time .zone))) (InstantAnswer.Refused Refusal.NoSuchDate)
+    go true = clocked (isClock (localFields w))
+    go false = refl

@@ -1,0 +1,59 @@
+-- The instant of a date as it is written: document 01, "The units text" and "Numbers returned". Date and time are local, and the instant
+-- is the local time less the zone. 4 tests what is written, and 5 the instant after the zone.
+use mathlib.Core.Bool.{Bool, true, false, _&&_, cond}
+use Prim.Native.Nat.{ℕ, _+_, _*_}
+use lib.Dec.{ltb}
+use lib.IntN.{ℤ, pos, negℤ, _-ℤ_}
+use Rattle.refusal.specs.declared.Refusal.the-variants.{NoSuchDate, OutOfRange}
+use Rattle.calendar.specs.declared.Calendar.{Calendar}
+use Rattle.instant.specs.Instant.{inRange, instantAnswer}
+use Rattle.instant.specs.declared.Fields.{Fields}
+use Rattle.instant.specs.declared.InstantAnswer.{InstantAnswer}
+use Rattle.date_text.specs.declared.Zone.{Zone}
+use Rattle.date_text.specs.declared.Written.{Written}
+
+-- a number with or without a minus; -0 is 0
+abbrev pub signedOf : Bool → ℕ → ℤ
+signedOf true n = negℤ (pos n)
+signedOf false n = pos n
+
+abbrev pub localFields : Written → Fields
+localFields w =
+    record {
+      year = signedOf (w .negative) (w .year);
+      month = w .month;
+      day = w .day;
+      hour = w .time .hour;
+      minute = w .time .minute;
+      second = w .time .second;
+      microsecond = w .time .microsecond;
+    }
+
+-- ---- zones
+
+-- hours 0 to 23, minutes 0 to 59
+abbrev pub isZone : Zone → Bool
+isZone z = ltb (z .hours) 24 && ltb (z .minutes) 60
+
+abbrev pub zoneLength : Zone → ℕ
+zoneLength z = (z .hours * 60 + z .minutes) * 60000000
+
+-- the microseconds by which local time is ahead of UTC
+abbrev pub ahead : Zone → ℤ
+ahead z = signedOf (z .behind) (zoneLength z)
+
+-- ---- the instant
+
+-- an instant that is handed out lies in the years -9999 to 9999
+abbrev pub ranged : Calendar → ℤ → InstantAnswer
+ranged c t = cond (inRange c t) (InstantAnswer.Is t) (InstantAnswer.Refused OutOfRange)
+
+-- a local instant less the zone
+abbrev pub lessZone : Calendar → Zone → InstantAnswer → InstantAnswer
+lessZone c z (InstantAnswer.Is t) = cond (isZone z) (ranged c (t -ℤ ahead z)) (InstantAnswer.Refused NoSuchDate)
+lessZone c z (InstantAnswer.Refused r) = InstantAnswer.Refused r
+
+-- `instantAnswer` refuses local fields that do not exist. (It refuses years past the range before that; a date that is read has a
+-- year of at most four digits: proofs/Order.antt.)
+unfoldable pub writtenInstant : Calendar → Written → InstantAnswer
+writtenInstant c w = lessZone c (w .time .zone) (instantAnswer c (localFields w))

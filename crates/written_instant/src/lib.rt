@@ -1,0 +1,76 @@
+// The instant of a date as it is written, in a calendar: local date and time, less the zone (specs/Instants.antt).
+ghost use mathlib.Core.Path.{_≡_};
+ghost use mathlib.Core.Bool.{true};
+ghost use Rattle.instant.specs.Instant.{inRange};
+ghost use Rattle.instant.specs.declared.InstantAnswer.{InstantAnswer};
+ghost use Rattle.written_instant.specs.Instants.{signedOf, ranged, lessZone, writtenInstant};
+use calendar::Calendar;
+use date_text::Written;
+use date_text::Zone;
+use instant::Fields;
+use instant::FieldsAnswer;
+use instant::InstantAnswer;
+use refusal::Refusal;
+
+// A number with or without a minus.
+fn signed_of(negative: bool, n: u32) -> i64
+    ensures { λ r. ⌜ r ≡ signedOf negative n ⌝ }
+{
+    if negative {
+        return signed::unbiased(0x8000_0000_0000_0000 - (n as u64));
+    }
+    return signed::unbiased(0x8000_0000_0000_0000 + (n as u64));
+}
+
+// An instant, or that its year lies past -9999 to 9999.
+fn ranged_instant(c: Calendar, t: i64) -> InstantAnswer
+    ensures { λ r. ⌜ r ≡ ranged c t ⌝ }
+{
+    match instant::fields_of(c, t) {
+        FieldsAnswer::Is(_) => return InstantAnswer::Is(t),
+        FieldsAnswer::Refused(_) => return InstantAnswer::Refused(Refusal::OutOfRange),
+    }
+}
+
+// A local instant less a zone.
+fn less_zone(c: Calendar, z: Zone, t: i64) -> InstantAnswer
+    requires { ⌜ inRange c t ≡ true ⌝ }
+    ensures { λ r. ⌜ r ≡ lessZone c z (InstantAnswer.Is t) ⌝ }
+{
+    if 24 <= z.hours {
+        return InstantAnswer::Refused(Refusal::NoSuchDate);
+    }
+    if 60 <= z.minutes {
+        return InstantAnswer::Refused(Refusal::NoSuchDate);
+    }
+    let m = ((z.hours as u64) * 60 + (z.minutes as u64)) * 60000000;
+    if m == 0 {
+        return InstantAnswer::Is(t);
+    }
+    let k = signed::biased(t);
+    if z.behind {
+        return ranged_instant(c, signed::unbiased(k + m));
+    }
+    return ranged_instant(c, signed::unbiased(k - m));
+}
+
+// The instant of a written date.
+pub fn written_instant(c: Calendar, w: Written) -> InstantAnswer
+    ensures { λ r. ⌜ r ≡ writtenInstant c w ⌝ }
+{
+    let t = w.time;
+    let z = t.zone;
+    let f = Fields {
+        year: signed_of(w.negative, w.year),
+        month: w.month,
+        day: w.day,
+        hour: t.hour,
+        minute: t.minute,
+        second: t.second,
+        microsecond: t.microsecond,
+    };
+    match instant::instant_of(c, f) {
+        InstantAnswer::Refused(r) => return InstantAnswer::Refused(r),
+        InstantAnswer::Is(u) => return less_zone(c, z, u),
+    }
+}
