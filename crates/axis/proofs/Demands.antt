@@ -30,7 +30,7 @@ use Rattle.fixed_axis.proofs.Offsets.{read-of}
 use Rattle.fixed_axis.proofs.Demands as Fixed
 use Rattle.axis.specs.Axis.{stepOf, dateAt, readStep, writeStep, asWhole, doubleAsWhole, wholeIn, doubleIn, writeIn, readWholeOn, readDoubleOn, writeInstantOn}
 use Rattle.axis.specs.Demands.{Inverse}
-use Rattle.axis.specs.declared.Axis.{Axis}
+use Rattle.axis_record.specs.declared.Axis.{Axis}
 use Rattle.axis.specs.declared.Step.{Step}
 use Rattle.axis.proofs.Stepping.{moved-of, months, years}
 use Rattle.axis.proofs.Stepping as Stepping
