@@ -16,7 +16,7 @@ use Rattle.calendar.specs.declared.DateAnswer.{DateAnswer}
 use Rattle.calendar.specs.declared.DayAnswer.{DayAnswer}
 use Rattle.calendar.proofs.Answering.{date-there}
 use Rattle.calendar.proofs.Theorems.{dates-exist}
-use Rattle.instant.specs.Instant.{dayOf, timeOf, inRange, fieldsAt, withTime, fieldsAnswer, dateIn, isClock, clockTime, withClock, pickInstant, instantAnswer}
+use Rattle.instant.specs.Instant.{dayOf, timeOf, inRange, withTime, fieldsAnswer, dateIn, isClock, clockTime, withClock, pickInstant, instantAnswer}
 use Rattle.instant.specs.declared.Fields.{Fields}
 use Rattle.instant.specs.declared.FieldsAnswer.{FieldsAnswer}
 use Rattle.instant.specs.declared.InstantAnswer.{InstantAnswer}

@@ -13,6 +13,7 @@
 --   read-writes      what reads as the instant is written
 --   inexact-none, none-inexact     Inexact exactly where no 64-bit offset reads as the instant
 --   one-offset       two offsets never read as the same instant
+--   instant-past, only-past    an instant past the range is refused as such, and a whole offset for nothing else
 -- Reference first: reference-whole, reference-double, reference-write.
 use mathlib.Core.Path.{_≡_, refl, sym, ap, _∙_}
 use mathlib.Core.Bool.{Bool, true, false, cond}
@@ -24,9 +25,10 @@ use lib.Signed.{leZ}
 use lib.Ieee.{Float, nan, inf, fin, le}
 use mir.Syntax.{w64}
 use mir.Val.{SFits}
+use Rattle.refusal.specs.declared.Refusal.{Refusal}
 use Rattle.refusal.specs.declared.Refusal.the-variants.{OutOfRange, Inexact, NotFinite}
 use Rattle.signed.specs.Bias.{lower}
-use Rattle.signed.proofs.Tests.{left-out}
+use Rattle.signed.proofs.Tests.{left-out, right-out}
 use Rattle.calendar.specs.Calendar.{next, dateOf, inYears}
 use Rattle.calendar.specs.declared.Calendar.{Calendar}
 use Rattle.calendar.proofs.Theorems.{next-date}
@@ -123,6 +125,19 @@ module _ (c : Calendar) (p : Period) (R : ℤ) where
 
   pub one-offset : (n m t : ℤ) (i j : Bool) → readWhole c p R n ≡ Reading.At t i → readWhole c p R m ≡ Reading.At t j → n ≡ m
   one-offset n m t i j f g = let e = read-writes n t i f in let d = read-writes m t j g in cc
+
+  pub instant-past : (t : ℤ) → inRange c t ≡ false → writeInstant c p R t ≡ OffsetAnswer.Refused OutOfRange
+  unfolding writeInstant
+  instant-past t h = ap (λ (b : Bool). cond b (inPeriods (t -ℤ R) P) (OffsetAnswer.Refused OutOfRange)) (right-out (inRange c R) (inRange c t) h)
+
+  pub only-past : (n : ℤ) (r : Refusal) → readWhole c p R n ≡ Reading.Refused r → r ≡ OutOfRange
+  unfolding readWhole
+  only-past n r = go (inRange c R) (inRange c (timeAfter p R n))
+    where
+      go : (a b : Bool) → cond a (cond b (Reading.At (timeAfter p R n) true) (Reading.Refused OutOfRange)) (Reading.Refused OutOfRange) ≡ Reading.Refused r → r ≡ OutOfRange
+      go true true h = absurd (let k : _≡_ {A = ℕ} 0 1 = cc in omega arith)
+      go true false h = (cc)
+      go false b h = (cc)
 
   -- ---- the reference before all else
   pub reference-whole : (n : ℤ) → inRange c R ≡ false → readWhole c p R n ≡ Reading.Refused OutOfRange

@@ -1,5 +1,5 @@
 -- `axis::offset_from` meets its contract. Assumes nothing.
-use mathlib.Core.Path.{_≡_, sym, ap, _∙_}
+use mathlib.Core.Path.{sym, ap, _∙_}
 use mir.Syntax.{w64}
 use mir.ValLaws.{toZ-ofZ}
 use Rattle.step.specs.declared.StepAnswer.{StepAnswer}
