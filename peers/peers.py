@@ -64,8 +64,8 @@ def times(cases, is_stub):
     for place, calendar in chosen:
         case = cases[place]
         best = timing.measure(case, calendar, OTHERS, {**counts, "xarray": 10_000 if calendar == "noleap" else 100_000})
-        figures = ["u" if figure is None else f"{figure:.{1 if figure < 100 else 0}f}" for figure in best]
-        rows.append([case.what, f"`{calendar}`", *figures])
+        ours, *others = ["u" if figure is None else f"{figure:.{1 if figure < 100 else 0}f}" for figure in best]
+        rows.append([case.what, f"`{calendar}`", "runs are not exported yet" if ours == "u" else ours, *others])
     return table(["nanoseconds for each offset", "calendar", "Uppinalo", *(reader.name for reader in OTHERS)], rows)
 
 

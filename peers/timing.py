@@ -1,7 +1,9 @@
-"""Nanoseconds for each offset: the best of some lots, each reader in turn, in one run and one thread."""
+"""Nanoseconds for each offset: the best of some lots, each reader in turn, in one run and one thread. Ours is that of a run."""
 import time
 
 from uppinalo import Axis
+
+from others import NotTaken
 
 LOTS = 5
 
@@ -12,27 +14,34 @@ def _seconds(work):
     return time.perf_counter() - start
 
 
-def measure(case, calendar, readers, counts):
-    """The best time of ours and of each reader for one offset of so many; None where a reader does not take the axis."""
-    from others import NotTaken
+def _best_start(work):
+    """Makes the work once. None where it is not taken."""
+    try:
+        work()
+    except (NotTaken, NotImplementedError):
+        return None
+    return float("inf")
 
+
+def measure(case, calendar, readers, counts):
+    """The best time of ours and of each reader for one offset of so many; None where a reader does not take the axis, and for ours
+    where the shared object has no runs yet."""
     axis = Axis(case.units, calendar=calendar)
 
     def repeated(count):
         return case.offsets.repeat(-(-count // len(case.offsets)))[:count]
 
-    works = [(lambda offsets=repeated(counts[None]): axis.read_run(offsets), counts[None])]
-    for reader in readers:
-        offsets = repeated(counts[reader.name])
-        try:
-            reader.read(case.units, calendar, offsets)
-        except NotTaken:
-            works.append(None)
-            continue
-        works.append((lambda reader=reader, offsets=offsets: reader.read(case.units, calendar, offsets), len(offsets)))
-    best = [None if work is None else float("inf") for work in works]
+    def read(reader, offsets):
+        return lambda: reader.read(case.units, calendar, offsets)
+
+    def ours(offsets):
+        return lambda: axis.read_run(offsets)
+
+    works = [ours(repeated(counts[None])), *(read(reader, repeated(counts[reader.name])) for reader in readers)]
+    sizes = [counts[None], *(counts[reader.name] for reader in readers)]
+    best = [_best_start(work) for work in works]
     for _ in range(LOTS):
         for place, work in enumerate(works):
-            if work is not None:
-                best[place] = min(best[place], _seconds(work[0]) / work[1] * 1e9)
+            if best[place] is not None:
+                best[place] = min(best[place], _seconds(work) / sizes[place] * 1e9)
     return best
