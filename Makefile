@@ -1,5 +1,5 @@
 # What is done beside `rt`. `make test` is the gate.
-.PHONY: test hosts compare faults bench lib clean
+.PHONY: test hosts compare faults fuzz peers bench docs lib clean
 
 test:     # the gate: every proof, every must-fail edit, the programs and the tests from other languages
 	bash .ci/run
@@ -17,8 +17,17 @@ compare:  # the same with the long comparison
 faults:   # that the comparison finds faults
 	hosts/compare/faults
 
+fuzz:     # the C boundary used at random, a million times
+	hosts/fuzz/run 1000000 2
+
+peers:    # the same axes through cftime, xarray, NumPy and UDUNITS; installs Debian packages
+	peers/run
+
 bench:    # speed beside plain Rust
 	bench/run
+
+docs:     # the tables of docs/TRUST.md and docs/ARCHITECTURE.md, from the crates
+	docs/tables.py
 
 clean:
 	rm -rf target

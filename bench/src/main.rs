@@ -1,9 +1,6 @@
 //! Prints, for each call, the nanoseconds of the proved library and of plain Rust, and their ratio.
 //! The words after the command choose what is measured; none choose all.
 
-#[cfg(feature = "stub")]
-extern crate stub as _;
-
 use bench::measure::{calendars, offsets, runs, texts};
 use bench::timing;
 

@@ -22,6 +22,7 @@ const CALLS: [&str; 13] = [
 ];
 
 fn listed() -> Vec<String> {
+    println!("cargo:rerun-if-changed=../calls.txt");
     let text = fs::read_to_string("../calls.txt").expect("hosts/calls.txt");
     let lines = text.lines().map(str::trim).filter(|line| !line.is_empty() && !line.starts_with('#'));
     lines.map(String::from).collect()
@@ -38,7 +39,6 @@ fn link(root: &Path) {
 fn main() {
     let is_stub = env::var_os("CARGO_FEATURE_STUB").is_some();
     let calls = if is_stub { CALLS[..12].iter().map(|call| call.to_string()).collect() } else { listed() };
-    println!("cargo:rerun-if-changed=../calls.txt");
     println!("cargo:rustc-check-cfg=cfg(exported, values({}))", CALLS.map(|call| format!("{call:?}")).join(", "));
     for call in &calls {
         assert!(CALLS.contains(&call.as_str()), "hosts/calls.txt: no such call: {call}");

@@ -39,7 +39,9 @@ fn read_fixed(axis: Axis, x: f64) -> Reading {
         return refused;
     };
     match axis.reference.checked_add(if is_negative { -size } else { size }) {
-        Some(instant) if clock::is_in_range(axis.calendar, instant) => Reading { number: 0, instant, exact },
+        Some(instant) if clock::is_in_range(axis.calendar, instant) => {
+            Reading { number: 0, instant, exact: exact as u8 }
+        }
         _ => refused,
     }
 }

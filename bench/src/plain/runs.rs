@@ -21,7 +21,7 @@ fn run<T: Copy>(axis: Axis, source: &[T], destination: &mut [i64], read: impl Fn
         if reading.number != 0 {
             return refused(reading.number, place);
         }
-        rounded += !reading.exact as usize;
+        rounded += (reading.exact == 0) as usize;
         instants.push(reading.instant);
     }
     destination[..source.len()].copy_from_slice(&instants);

@@ -69,7 +69,7 @@ impl Start {
 
     pub fn read(&self, offset: i64) -> Reading {
         match self.instant(offset) {
-            Some(instant) => Reading { number: 0, instant, exact: true },
+            Some(instant) => Reading { number: 0, instant, exact: 1 },
             None => Reading { number: 5, ..Default::default() },
         }
     }

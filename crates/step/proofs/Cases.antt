@@ -3,7 +3,7 @@ use mathlib.Core.List.{List, [], _∷_, map}
 use mathlib.Core.Path.{_≡_, refl}
 use lib.IntN.{pos, negsuc}
 use Rattle.calendar.specs.Calendar.{date, exists, kind, monthDays, times, yearAfter, yearBefore}
-use Rattle.calendar.specs.declared.Calendar.the-variants.{Standard, Julian, Day360}
+use Rattle.calendar.specs.declared.Calendar.the-variants.{Standard, ProlepticGregorian, Day360}
 use Rattle.calendar.specs.declared.Date.{Date}
 use Rattle.step.specs.Months.{monthAfter, monthBefore, steps, downTo, monthsAfter, yearsAfter}
 
@@ -21,7 +21,7 @@ cases =
     ∷ case (monthsAfter Standard (pos 2) (date (pos 1930) 1 31)) (date (pos 1930) 3 31)
     ∷ case (monthsAfter Standard (pos 1) (date (pos 1582) 9 10)) (date (pos 1582) 10 4)
     ∷ case (monthsAfter Standard (pos 1) (date (negsuc 0) 12 31)) (date (pos 1) 1 31)
-    ∷ case (monthsAfter Julian (pos 1) (date (negsuc 0) 12 31)) (date (pos 0) 1 31)
+    ∷ case (monthsAfter ProlepticGregorian (pos 1) (date (negsuc 0) 12 31)) (date (pos 0) 1 31)
     ∷ case (monthsAfter Day360 (negsuc 10) (date (pos 2024) 1 30)) (date (pos 2023) 2 30)
     ∷ case (yearsAfter Standard (pos 1) (date (pos 1581) 10 14)) (date (pos 1582) 10 4)
     ∷ case (yearsAfter Standard (negsuc 3) (date (pos 2) 2 28)) (date (negsuc 2) 2 28)

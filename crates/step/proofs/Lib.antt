@@ -1,3 +1,4 @@
+pub mod Cases
 pub mod Steps
 pub mod Order
 pub mod Days
@@ -6,4 +7,3 @@ pub mod Counts
 pub mod Searching
 pub mod Answering
 pub mod Theorems
-pub mod Cases

@@ -38,7 +38,7 @@ year-earlier c y = go (hasYearZero c)
 
 -- ---- months
 
--- the earlier month: the first of its days would be the earlier date
+-- the earlier month: of two dates with the same day, the one in it is earlier
 abbrev pub BeforeMonth : YearMonth → YearMonth → Type 0
 BeforeMonth p q = Before (date (p .year) (p .month) 0) (date (q .year) (q .month) 0)
 

@@ -1,19 +1,22 @@
 -- What is proved of steps by months and years, in one place. `c` is any of the six calendars; z, w and n are any integers.
-use mathlib.Core.Path.{_≡_, refl, sym, _∙_}
-use mathlib.Core.Bool.{true}
+use mathlib.Core.Path.{_≡_, refl, sym, ap, _∙_}
+use mathlib.Core.Bool.{Bool, true, false}
 use Prim.Native.Nat.{ℕ}
 use native.Mathlib.Omega.{arith}
 use lib.IntN.{ℤ, pos, subℕ}
 use lib.Signed.{ltZ}
-use Rattle.calendar.specs.Answers.{dayAnswer}
+use Rattle.refusal.specs.declared.Refusal.the-variants.{OutOfRange}
+use Rattle.calendar.specs.Answers.{dayAnswer, pickDateAnswer}
 use Rattle.calendar.specs.Calendar.{hasYearZero, exists, inYears, times}
 use Rattle.calendar.specs.Closed.{yearAt}
 use Rattle.calendar.specs.Order.{earlier}
 use Rattle.calendar.specs.declared.Calendar.{Calendar}
 use Rattle.calendar.specs.declared.Date.{Date}
+use Rattle.calendar.specs.declared.DateAnswer.{DateAnswer}
 use Rattle.calendar.specs.declared.DayAnswer.{DayAnswer}
 use Rattle.calendar.proofs.Existing.{date-eq}
-use Rattle.step.specs.Answers.{numberAt, stepFrom, monthsBetween, yearsBetween}
+use Rattle.calendar.proofs.Theorems.{answered}
+use Rattle.step.specs.Answers.{within, dateFrom, monthsAnswer, yearsAnswer, numberAt, stepFrom, monthsBetween, yearsBetween}
 use Rattle.step.specs.Closed.{monthAt}
 use Rattle.step.specs.Months.{steps, monthsOn, yearsOn, monthsAfter, yearsAfter}
 use Rattle.step.specs.declared.StepAnswer.{StepAnswer}
@@ -74,6 +77,34 @@ module _ (c : Calendar) where
 
     pub years-kept : (z : ℤ) → let d = yearsAfter c z x in Kept c (d .year) (d .month) (x .day) (d .day)
     years-kept = Existing.years-kept c x there
+
+-- ---- a date that is answered
+
+-- e is the date that steps from x lead to, and d the answer
+pub record Reached (c : Calendar) (x e d : Date) : Type 0 where
+  pub from-inside : inYears (x .year) ≡ true
+  pub from-there : exists c x ≡ true
+  pub is : e ≡ d
+  pub inside : inYears (d .year) ≡ true
+
+reached : (c : Calendar) (x e d : Date) → dateFrom (dayAnswer c x) (within e) ≡ DateAnswer.Is d → Reached c x e d
+reached c x e d = go (dayAnswer c x) (inYears (e .year)) refl refl
+  where
+    go : (a : DayAnswer) (t : Bool) → dayAnswer c x ≡ a → inYears (e .year) ≡ t → dateFrom a (pickDateAnswer t (DateAnswer.Is e) (DateAnswer.Refused OutOfRange)) ≡ DateAnswer.Is d → Reached c x e d
+    go (DayAnswer.Is n) true h g u =
+        let a = answered c x n (sym h) in
+        let is : e ≡ d = (cc) in
+        record { from-inside = a .inside; from-there = a .there; is = is; inside = ap (λ (k : Date). inYears (k .year)) (sym is) ∙ g }
+    go (DayAnswer.Is n) false h g u = absurd (let z : _≡_ {A = ℕ} 0 1 = (cc) in omega arith)
+    go (DayAnswer.Refused r) t h g u = absurd (let z : _≡_ {A = ℕ} 0 1 = (cc) in omega arith)
+
+pub months-reached : (c : Calendar) (x d : Date) (z : ℤ) → monthsAnswer c z x ≡ DateAnswer.Is d → Reached c x (monthsAfter c z x) d
+unfolding monthsAnswer
+months-reached c x d z = reached c x (monthsAfter c z x) d
+
+pub years-reached : (c : Calendar) (x d : Date) (z : ℤ) → yearsAnswer c z x ≡ DateAnswer.Is d → Reached c x (yearsAfter c z x) d
+unfolding yearsAnswer
+years-reached c x d z = reached c x (yearsAfter c z x) d
 
 -- ---- the number of steps between two dates
 

@@ -41,7 +41,8 @@ pub struct AxisAnswer {
 pub struct Reading {
     pub number: u32,
     pub instant: i64,
-    pub exact: bool,
+    /// C's `bool`, taken as a byte: 1 for true, 0 for false.
+    pub exact: u8,
 }
 
 #[repr(C)]

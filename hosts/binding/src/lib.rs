@@ -1,60 +1,27 @@
-//! The calls of the proved library's archive, as safe Rust. `include/uppinalo.h` says what they mean.
+//! The proved library's archive, as safe Rust.
+//!
+//!     let axis = Axis::of_units("noleap", "days since 1850-01-01")?;
+//!     let reading = axis.read(59.5)?;
+//!     assert_eq!(axis.calendar.iso_text(reading.instant)?, "1850-03-01T12:00:00.000000Z");
+//!
+//! What a call means, `include/uppinalo.h` says. No use of this crate without `unsafe` has undefined behaviour, as long as the
+//! archive keeps to that header.
 
+mod axis;
+pub mod boundary;
+mod calendar;
 pub mod raw;
+mod refusal;
 
-pub use answers::*;
+pub use answers::{Date, Fields};
+pub use axis::{Axis, Mode, Offset, Period, Reading, Run};
+pub use calendar::{Calendar, read_iso};
+pub use refusal::{Refusal, RefusedRun};
+
+#[cfg(feature = "stub")]
+extern crate stub as _;
 
 /// Whether the archive has a call yet. A call that it has not ends the process.
 pub fn is_exported(call: &str) -> bool {
     env!("UPPINALO_CALLS").split(' ').any(|name| name == call)
-}
-
-pub fn read_units(calendar: &[u8], text: &[u8]) -> AxisAnswer {
-    unsafe { raw::uppinalo_read_units(calendar.as_ptr(), calendar.len(), text.as_ptr(), text.len()) }
-}
-
-pub fn read_iso(calendar: &[u8], text: &[u8]) -> Reading {
-    unsafe { raw::uppinalo_read_iso(calendar.as_ptr(), calendar.len(), text.as_ptr(), text.len()) }
-}
-
-pub fn write_iso(calendar: u32, instant: i64, room: &mut [u8]) -> LengthAnswer {
-    unsafe { raw::uppinalo_write_iso(calendar, instant, room.as_mut_ptr(), room.len()) }
-}
-
-pub fn fields_of(calendar: u32, instant: i64) -> FieldsAnswer {
-    unsafe { raw::uppinalo_fields_of(calendar, instant) }
-}
-
-pub fn date_of_day(calendar: u32, day: i64) -> DateAnswer {
-    unsafe { raw::uppinalo_date_of_day(calendar, day) }
-}
-
-pub fn day_of_date(calendar: u32, date: Date) -> DayAnswer {
-    unsafe { raw::uppinalo_day_of_date(calendar, date) }
-}
-
-pub fn read_whole(axis: Axis, offset: i64) -> Reading {
-    unsafe { raw::uppinalo_read_whole(axis, offset) }
-}
-
-pub fn read_double(axis: Axis, offset: f64) -> Reading {
-    unsafe { raw::uppinalo_read_double(axis, offset) }
-}
-
-pub fn write_instant(axis: Axis, instant: i64) -> OffsetAnswer {
-    unsafe { raw::uppinalo_write_instant(axis, instant) }
-}
-
-pub fn write_fields(axis: Axis, fields: Fields) -> OffsetAnswer {
-    unsafe { raw::uppinalo_write_fields(axis, fields) }
-}
-
-pub fn read_wholes(axis: Axis, source: &[i64], destination: &mut [i64]) -> RunAnswer {
-    let (from, n) = (source.as_ptr(), source.len());
-    unsafe { raw::uppinalo_read_wholes(axis, from, n, destination.as_mut_ptr(), destination.len()) }
-}
-
-pub fn read_doubles(axis: Axis, source: &[f64], destination: &mut [i64]) -> RunAnswer {
-    let (from, n) = (source.as_ptr(), source.len());
-    unsafe { raw::uppinalo_read_doubles(axis, from, n, destination.as_mut_ptr(), destination.len()) }
 }

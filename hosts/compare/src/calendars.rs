@@ -5,12 +5,13 @@ use crate::run::Run;
 use answers::Date;
 use samples::instants;
 use second::boundary;
+use uppinalo::boundary as archive;
 
 const EXTREMES: [i64; 6] = [i64::MIN, i64::MIN + 1, i64::MAX - 1, i64::MAX, 0, -1];
 
 fn one_day(run: &mut Run, kind: &'static str, calendar: u32, day: i64) {
     let second = boundary::date_of_day_number(calendar, day);
-    run.judge(kind, second.number, &(calendar, day), uppinalo::date_of_day(calendar, day), second);
+    run.judge(kind, second.number, &(calendar, day), archive::date_of_day(calendar, day), second);
 }
 
 /// Every day number in range and some past it.
@@ -41,7 +42,7 @@ pub fn date_of_day(run: &mut Run) {
 
 fn one_date(run: &mut Run, kind: &'static str, calendar: u32, date: Date) {
     let second = boundary::day_number_of_date(calendar, date);
-    run.judge(kind, second.number, &(calendar, date), uppinalo::day_of_date(calendar, date), second);
+    run.judge(kind, second.number, &(calendar, date), archive::day_of_date(calendar, date), second);
 }
 
 /// All months 0 to 13 and days 0 to 32 of a year.
@@ -78,7 +79,7 @@ pub fn day_of_date(run: &mut Run) {
 
 fn one_instant(run: &mut Run, kind: &'static str, calendar: u32, instant: i64) {
     let second = boundary::fields_of(calendar, instant);
-    run.judge(kind, second.number, &(calendar, instant), uppinalo::fields_of(calendar, instant), second);
+    run.judge(kind, second.number, &(calendar, instant), archive::fields_of(calendar, instant), second);
 }
 
 /// The first, the last and some other microsecond of every so many days.

@@ -5,9 +5,6 @@
 //! Compares the calls named, or all that hosts/calls.txt lists. Prints how often each kind of input had each number for its
 //! answer. Inputs are drawn from a seed, so every run has the same. The exit status is 1 where an answer or a lent byte differs.
 
-#[cfg(feature = "stub")]
-extern crate stub as _;
-
 mod axes;
 mod calendars;
 mod lent;

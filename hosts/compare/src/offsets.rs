@@ -5,6 +5,7 @@ use crate::run::Run;
 use answers::Axis;
 use samples::{Random, doubles, wholes};
 use second::boundary;
+use uppinalo::boundary as archive;
 
 /// What the kinds of an axis and of an offset are together.
 pub fn joined(axis: &'static str, offset: &'static str) -> &'static str {
@@ -16,14 +17,14 @@ pub fn read_whole(run: &mut Run) {
         let (axis_kind, axis) = axes::axis(&mut run.random);
         let (kind, offset) = wholes::offset(&mut run.random, axis);
         let second = boundary::read_whole(axis, offset);
-        run.judge(joined(axis_kind, kind), second.number, &(axis, offset), uppinalo::read_whole(axis, offset), second);
+        run.judge(joined(axis_kind, kind), second.number, &(axis, offset), archive::read_whole(axis, offset), second);
     }
 }
 
 fn one_double(run: &mut Run, kind: &'static str, axis: Axis, x: f64) {
     let second = boundary::read_double(axis, x);
     let input = (axis, x, format_args!("{:#018x}", x.to_bits()));
-    run.judge(kind, second.number, &input, uppinalo::read_double(axis, x), second);
+    run.judge(kind, second.number, &input, archive::read_double(axis, x), second);
 }
 
 pub fn read_double(run: &mut Run) {

@@ -7,6 +7,7 @@ use answers::{Axis, RunAnswer};
 use samples::{Random, doubles, wholes};
 use second::boundary;
 use std::fmt::Debug;
+use uppinalo::boundary as archive;
 
 const MOST: usize = 3000;
 
@@ -116,7 +117,7 @@ fn source<T: Copy>(random: &mut Random, axis: Axis, calls: &Kind<T>) -> (&'stati
 pub fn read_wholes(run: &mut Run) {
     let count = run.count(20_000, 400_000);
     let offset = |random: &mut Random, axis| wholes::offset(random, axis).1;
-    runs(run, count, &Kind { offset, archive: uppinalo::read_wholes, second: boundary::read_wholes });
+    runs(run, count, &Kind { offset, archive: archive::read_wholes, second: boundary::read_wholes });
     empty_runs(run, |axis| unsafe {
         uppinalo::raw::uppinalo_read_wholes(axis, std::ptr::null(), 0, std::ptr::null_mut(), 0)
     });
@@ -125,7 +126,7 @@ pub fn read_wholes(run: &mut Run) {
 pub fn read_doubles(run: &mut Run) {
     let count = run.count(10_000, 200_000);
     let offset = |random: &mut Random, axis| doubles::double(random, axis).1;
-    runs(run, count, &Kind { offset, archive: uppinalo::read_doubles, second: boundary::read_doubles });
+    runs(run, count, &Kind { offset, archive: archive::read_doubles, second: boundary::read_doubles });
     empty_runs(run, |axis| unsafe {
         uppinalo::raw::uppinalo_read_doubles(axis, std::ptr::null(), 0, std::ptr::null_mut(), 0)
     });

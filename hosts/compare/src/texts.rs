@@ -6,6 +6,7 @@ use crate::run::Run;
 use samples::texts;
 use second::boundary;
 use std::fmt::{Debug, Formatter};
+use uppinalo::boundary as archive;
 
 const MOST: usize = 2000;
 
@@ -49,7 +50,7 @@ fn one_text<A: PartialEq + Debug>(
 
 pub fn read_units(run: &mut Run) {
     let mut lenders = [Lender::with_room(MOST), Lender::with_room(MOST)];
-    let calls = Calls { archive: uppinalo::read_units, second: boundary::read_units, number: |answer| answer.number };
+    let calls = Calls { archive: archive::read_units, second: boundary::read_units, number: |answer| answer.number };
     for _ in 0..run.count(400_000, 10_000_000) {
         let name = texts::calendar_name(&mut run.random);
         let (kind, text) = texts::units(&mut run.random);
@@ -61,7 +62,7 @@ pub fn read_units(run: &mut Run) {
 
 pub fn read_iso(run: &mut Run) {
     let mut lenders = [Lender::with_room(MOST), Lender::with_room(MOST)];
-    let calls = Calls { archive: uppinalo::read_iso, second: boundary::read_iso, number: |answer| answer.number };
+    let calls = Calls { archive: archive::read_iso, second: boundary::read_iso, number: |answer| answer.number };
     for _ in 0..run.count(400_000, 10_000_000) {
         let name = texts::calendar_name(&mut run.random);
         let (kind, text) = texts::iso(&mut run.random);
@@ -77,7 +78,7 @@ fn one_writing(run: &mut Run, lender: &mut Lender, kind: &'static str, calendar:
     let length = random.pick_or_below(&[0, 1, 10, 20, 26, 27, 27, 28, 28, 29, 40], 100) as usize;
     let before: Vec<u8> = (0..length).map(|_| random.bits() as u8).collect();
     let room = lender.lend(&before, side(run));
-    let ours = uppinalo::write_iso(calendar, instant, room.buffer);
+    let ours = archive::write_iso(calendar, instant, room.buffer);
     let mut expected = before;
     let second = boundary::write_iso(calendar, instant, &mut expected);
     let input = (calendar, instant, length);

@@ -6,6 +6,7 @@ use crate::run::Run;
 use answers::{Axis, Fields};
 use samples::{Random, instants, wholes};
 use second::boundary;
+use uppinalo::boundary as archive;
 
 /// An instant that a whole offset reads as, or one near it, or any other.
 fn instant(random: &mut Random, axis: Axis) -> (&'static str, i64) {
@@ -30,7 +31,7 @@ pub fn write_instant(run: &mut Run) {
             joined(axis_kind, kind),
             second.number,
             &(axis, instant),
-            uppinalo::write_instant(axis, instant),
+            archive::write_instant(axis, instant),
             second,
         );
     }
@@ -65,12 +66,6 @@ pub fn write_fields(run: &mut Run) {
         let good = boundary::fields_of(axis.calendar.min(5), instant).fields;
         let (kind, fields) = if run.random.one_in(2) { damaged(&mut run.random, good) } else { (kind, good) };
         let second = boundary::write_fields(axis, fields);
-        run.judge(
-            joined(axis_kind, kind),
-            second.number,
-            &(axis, fields),
-            uppinalo::write_fields(axis, fields),
-            second,
-        );
+        run.judge(joined(axis_kind, kind), second.number, &(axis, fields), archive::write_fields(axis, fields), second);
     }
 }

@@ -44,7 +44,7 @@ pub fn fields_of_numbers(numbers: answers::Fields) -> Fields {
 
 pub fn reading_answer(result: Result<Reading, Refusal>) -> answers::Reading {
     match result {
-        Ok(Reading { instant, exact }) => answers::Reading { number: 0, instant, exact },
+        Ok(Reading { instant, exact }) => answers::Reading { number: 0, instant, exact: exact as u8 },
         Err(refusal) => answers::Reading { number: refusal.number(), ..Default::default() },
     }
 }

@@ -36,7 +36,7 @@ pub fn read_whole_wrapping(axis: Axis, offset: i64) -> Reading {
     let period = second::axis::PERIODS[axis.period as usize].microseconds();
     let instant = axis.reference.wrapping_add(offset.wrapping_mul(period));
     match boundary::fields_of(axis.calendar, instant).number {
-        0 => Reading { number: 0, instant, exact: true },
+        0 => Reading { number: 0, instant, exact: 1 },
         number => Reading { number, ..Default::default() },
     }
 }

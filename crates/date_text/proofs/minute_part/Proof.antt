@@ -1,11 +1,15 @@
 -- `date_text::minute_part` meets its contract: each `return` is a step of the reader.
 use borrow.Author.Needs.{needs}
 use native.Mathlib.Omega.{arith}
-use mathlib.Core.Path.{sym, ap, _∙_}
+use mathlib.Core.Path.{sym, ap, _∙_, _≡_}
+use lib.ListN.{drop}
 use Rattle.grammar.specs.Answers.{numberIn}
+use Rattle.grammar.specs.Reader.{paired, scan}
 use Rattle.grammar.proofs.Places.{starts-lt}
 use Rattle.grammar.proofs.Steps.{part-absent, part-no, part-is}
 use Rattle.date_text.specs.Answers.{secondIn}
+use Rattle.date_text.specs.DateRule.{minutePart}
+use Rattle.date_text.specs.declared.SecondAt.{SecondAt}
 use Rattle.date_text.proofs.minute_part.Statement.{statement}
 use Rattle.date_text.proofs.minute_part.Tie as tie
 
@@ -30,6 +34,19 @@ returns c =
     let a = n .before .before .before .before .args in
     part-no _ _ _ _ (a .s .now) (a .at) (sym (n .before .before .next-in .ensures) ∙ n .before .if1 .taken) (n .number-at .ensures ∙ ap (numberIn _) (c .enum-told .given .1))
 
+-- the part, by what is found after the number
+part : (f : tie.After-second-part) (o : SecondAt) → f .second-part .result ≡ o
+    → let v = f .before .before in
+    let a = v .before .before .before .before .before .before .args in
+    scan minutePart (drop (a .at) (a .s .now)) ≡ paired (v .minute .given .0 .0) (secondIn (a .s .now) o)
+part f o e =
+    let v = f .before .before in
+    let n = v .before .before in
+    let a = n .before .before .before .before .args in
+    part-is _ _ _ _ (a .s .now) (a .at) (sym (n .before .before .next-in .ensures) ∙ n .before .if1 .taken) _ _ _
+    (n .number-at .ensures ∙ ap (numberIn _) (v .minute .given .1))
+    (f .second-part .ensures ∙ ap (secondIn _) e)
+
 second-part-requires : tie.Need-second-part-requires
 second-part-requires c κs = search needs
 
@@ -40,24 +57,10 @@ enum-told-2 : tie.Need-enum-told-2
 enum-told-2 c = search needs
 
 returns-2 : tie.Need-returns-2
-returns-2 c =
-    let f = c .before .before in
-    let v = f .before .before in
-    let n = v .before .before in
-    let a = n .before .before .before .before .args in
-    part-is _ _ _ _ (a .s .now) (a .at) (sym (n .before .before .next-in .ensures) ∙ n .before .if1 .taken) _ _ _
-    (n .number-at .ensures ∙ ap (numberIn _) (v .minute .given .1))
-    (f .second-part .ensures ∙ ap (secondIn _) (c .enum-told2 .given .1))
+returns-2 c = part (c .before .before) _ (c .enum-told2 .given .1)
 
 returns-3 : tie.Need-returns-3
-returns-3 c =
-    let f = c .before .before .before in
-    let v = f .before .before in
-    let n = v .before .before in
-    let a = n .before .before .before .before .args in
-    part-is _ _ _ _ (a .s .now) (a .at) (sym (n .before .before .next-in .ensures) ∙ n .before .if1 .taken) _ _ _
-    (n .number-at .ensures ∙ ap (numberIn _) (v .minute .given .1))
-    (f .second-part .ensures ∙ ap (secondIn _) (c .before .second .given .1))
+returns-3 c = part (c .before .before .before) _ (c .before .second .given .1)
 
 returns-4 : tie.Need-returns-4
 returns-4 c = part-absent _ _ _ _ (sym (c .before .next-in .ensures) ∙ c .if1 .left)

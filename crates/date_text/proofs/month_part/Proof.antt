@@ -1,13 +1,15 @@
 -- `date_text::month_part` meets its contract: each `return` is a step of the reader.
 use borrow.Author.Needs.{needs}
 use native.Mathlib.Omega.{arith}
-use mathlib.Core.Path.{sym, ap, _∙_}
+use mathlib.Core.Path.{sym, ap, _∙_, _≡_}
 use lib.ListN.{drop}
 use Rattle.grammar.specs.Answers.{numberIn}
-use Rattle.grammar.specs.Reader.{found}
+use Rattle.grammar.specs.Reader.{paired, scan, found}
 use Rattle.grammar.proofs.Places.{starts-lt}
 use Rattle.grammar.proofs.Steps.{part-absent, part-no, part-is}
 use Rattle.date_text.specs.Answers.{dayIn}
+use Rattle.date_text.specs.DateRule.{monthPart}
+use Rattle.date_text.specs.declared.DayAt.{DayAt}
 use Rattle.date_text.specs.declared.Time.{Time}
 use Rattle.date_text.proofs.month_part.Statement.{statement}
 use Rattle.date_text.proofs.month_part.Tie as tie
@@ -33,6 +35,19 @@ returns c =
     let a = n .before .before .before .before .args in
     part-no _ _ _ _ (a .s .now) (a .at) (sym (n .before .before .next-in .ensures) ∙ n .before .if1 .taken) (n .number-at .ensures ∙ ap (numberIn _) (c .enum-told .given .1))
 
+-- the part, by what is found after the number
+part : (f : tie.After-day-part) (o : DayAt) → f .day-part .result ≡ o
+    → let v = f .before .before in
+    let a = v .before .before .before .before .before .before .args in
+    scan monthPart (drop (a .at) (a .s .now)) ≡ paired (v .month .given .0 .0) (dayIn (a .s .now) o)
+part f o e =
+    let v = f .before .before in
+    let n = v .before .before in
+    let a = n .before .before .before .before .args in
+    part-is _ _ _ _ (a .s .now) (a .at) (sym (n .before .before .next-in .ensures) ∙ n .before .if1 .taken) _ _ _
+    (n .number-at .ensures ∙ ap (numberIn _) (v .month .given .1))
+    (f .day-part .ensures ∙ ap (dayIn _) e)
+
 day-part-requires : tie.Need-day-part-requires
 day-part-requires c κs = search needs
 
@@ -43,24 +58,10 @@ enum-told-2 : tie.Need-enum-told-2
 enum-told-2 c = search needs
 
 returns-2 : tie.Need-returns-2
-returns-2 c =
-    let f = c .before .before in
-    let v = f .before .before in
-    let n = v .before .before in
-    let a = n .before .before .before .before .args in
-    part-is _ _ _ _ (a .s .now) (a .at) (sym (n .before .before .next-in .ensures) ∙ n .before .if1 .taken) _ _ _
-    (n .number-at .ensures ∙ ap (numberIn _) (v .month .given .1))
-    (f .day-part .ensures ∙ ap (dayIn _) (c .enum-told2 .given .1))
+returns-2 c = part (c .before .before) _ (c .enum-told2 .given .1)
 
 returns-3 : tie.Need-returns-3
-returns-3 c =
-    let f = c .before .before .before in
-    let v = f .before .before in
-    let n = v .before .before in
-    let a = n .before .before .before .before .args in
-    part-is _ _ _ _ (a .s .now) (a .at) (sym (n .before .before .next-in .ensures) ∙ n .before .if1 .taken) _ _ _
-    (n .number-at .ensures ∙ ap (numberIn _) (v .month .given .1))
-    (f .day-part .ensures ∙ ap (dayIn _) (c .before .day .given .1))
+returns-3 c = part (c .before .before .before) _ (c .before .day .given .1)
 
 midnight-utc-requires : tie.Need-midnight-utc-requires
 midnight-utc-requires c κs = search needs

@@ -8,11 +8,13 @@ use mathlib.Core.List.{[], _∷_}
 use lib.ListN.{length, drop}
 use Rattle.grammar.specs.Answers.{numberIn}
 use Rattle.grammar.specs.Grammar.{starts}
-use Rattle.grammar.specs.Reader.{found}
+use Rattle.grammar.specs.Reader.{paired, given, scan, found}
 use Rattle.grammar.specs.Rules.{anyOf}
 use Rattle.grammar.proofs.Places.{starts-lt}
 use Rattle.date_text.specs.Answers.{zoneIn, minuteIn}
+use Rattle.date_text.specs.DateRule.{timeOf, timePart}
 use Rattle.date_text.specs.declared.Time.{Time}
+use Rattle.date_text.specs.declared.ZoneAt.{ZoneAt}
 use Rattle.date_text.proofs.Steps.{time-none, time-no, time-half, time-is}
 use Rattle.date_text.proofs.time_part.Statement.{statement}
 use Rattle.date_text.proofs.time_part.Tie as tie
@@ -67,6 +69,21 @@ returns-2 c =
     let a = t .before .before .before .before .args in
     time-half (a .s .now) (a .at) (yes t) _ _ (n .number-at .ensures ∙ ap (numberIn _) (h .hour .given .1)) (m .minute-part .ensures ∙ ap (minuteIn _) (c .enum-told2 .given .1))
 
+-- the time, by what is found after its minutes
+time : (z : tie.After-zone-part) (o : ZoneAt) → z .zone-part .result ≡ o
+    → let k = z .before .before in
+    let h = k .before .before .before .before in
+    let a = h .before .before .before .before .before .before .before .args in
+    scan timePart (drop (a .at) (a .s .now)) ≡ given timeOf (paired (h .hour .given .0 .0) (paired (k .minute .given .0 .0, (k .minute .given .0 .1 .0, k .minute .given .0 .1 .1 .0)) (zoneIn (a .s .now) o)))
+time z o e =
+    let k = z .before .before in
+    let m = k .before .before in
+    let h = m .before .before in
+    let n = h .before .before in
+    let t = n .before in
+    let a = t .before .before .before .before .args in
+    time-is (a .s .now) (a .at) (yes t) _ _ _ _ _ (n .number-at .ensures ∙ ap (numberIn _) (h .hour .given .1)) (m .minute-part .ensures ∙ ap (minuteIn _) (k .minute .given .1)) (z .zone-part .ensures ∙ ap (zoneIn _) e)
+
 zone-part-requires : tie.Need-zone-part-requires
 zone-part-requires c κs = search needs
 
@@ -77,26 +94,10 @@ enum-told-3 : tie.Need-enum-told-3
 enum-told-3 c = search needs
 
 returns-3 : tie.Need-returns-3
-returns-3 c =
-    let z = c .before .before in
-    let k = z .before .before in
-    let m = k .before .before in
-    let h = m .before .before in
-    let n = h .before .before in
-    let t = n .before in
-    let a = t .before .before .before .before .args in
-    time-is (a .s .now) (a .at) (yes t) _ _ _ _ _ (n .number-at .ensures ∙ ap (numberIn _) (h .hour .given .1)) (m .minute-part .ensures ∙ ap (minuteIn _) (k .minute .given .1)) (z .zone-part .ensures ∙ ap (zoneIn _) (c .enum-told3 .given .1))
+returns-3 c = time (c .before .before) _ (c .enum-told3 .given .1)
 
 returns-4 : tie.Need-returns-4
-returns-4 c =
-    let z = c .before .before .before in
-    let k = z .before .before in
-    let m = k .before .before in
-    let h = m .before .before in
-    let n = h .before .before in
-    let t = n .before in
-    let a = t .before .before .before .before .args in
-    time-is (a .s .now) (a .at) (yes t) _ _ _ _ _ (n .number-at .ensures ∙ ap (numberIn _) (h .hour .given .1)) (m .minute-part .ensures ∙ ap (minuteIn _) (k .minute .given .1)) (z .zone-part .ensures ∙ ap (zoneIn _) (c .before .zone .given .1))
+returns-4 c = time (c .before .before .before) _ (c .before .zone .given .1)
 
 midnight-utc-requires : tie.Need-midnight-utc-requires
 midnight-utc-requires c κs = search needs

@@ -5,11 +5,15 @@ use Prim.Native.Nat.{_<_}
 use mathlib.Core.Path.{_≡_, sym, ap, _∙_}
 use mathlib.Core.Bool.{true}
 use mathlib.Core.List.{[], _∷_}
-use lib.ListN.{length, drop}
+use lib.Dec.{eqb}
+use lib.ListN.{length, drop, getD}
 use Rattle.grammar.specs.Answers.{numberIn}
 use Rattle.grammar.specs.Grammar.{starts}
+use Rattle.grammar.specs.Reader.{paired, given, scan}
 use Rattle.grammar.specs.Rules.{anyOf}
+use Rattle.grammar.specs.declared.NumberAt.{NumberAt}
 use Rattle.grammar.proofs.Places.{starts-lt}
+use Rattle.date_text.specs.DateRule.{zoneOf, zoneOffset}
 use Rattle.date_text.proofs.Steps.{offset-none, offset-no, offset-is}
 use Rattle.date_text.proofs.zone_offset.Statement.{statement}
 use Rattle.date_text.proofs.zone_offset.Tie as tie
@@ -48,6 +52,18 @@ returns c =
     let a = t .before .before .before .before .args in
     offset-no (a .s .now) (a .at) (yes t) (c .before .before .two-digits .ensures ∙ ap (numberIn _) (c .enum-told .given .1))
 
+-- the zone, by what is found after its hours
+offset : (z : tie.After-zone-minutes) (o : NumberAt) → z .zone-minutes .result ≡ o
+    → let h = z .before .before in
+    let a = h .before .before .before .before .before .before .before .before .args in
+    scan zoneOffset (drop (a .at) (a .s .now)) ≡ given zoneOf (paired (eqb (getD (a .s .now) (a .at) 0) 45) (paired (h .hours .given .0 .0) (numberIn (a .s .now) o)))
+offset z o e =
+    let h = z .before .before in
+    let d = h .before .before in
+    let t = d .before .before in
+    let a = t .before .before .before .before .args in
+    offset-is (a .s .now) (a .at) (yes t) _ _ _ (d .two-digits .ensures ∙ ap (numberIn _) (h .hours .given .1)) (z .zone-minutes .ensures ∙ ap (numberIn _) e)
+
 zone-minutes-requires : tie.Need-zone-minutes-requires
 zone-minutes-requires c κs = search needs
 
@@ -58,22 +74,10 @@ enum-told-2 : tie.Need-enum-told-2
 enum-told-2 c = search needs
 
 returns-2 : tie.Need-returns-2
-returns-2 c =
-    let z = c .before .before in
-    let h = z .before .before in
-    let d = h .before .before in
-    let t = d .before .before in
-    let a = t .before .before .before .before .args in
-    offset-is (a .s .now) (a .at) (yes t) _ _ _ (d .two-digits .ensures ∙ ap (numberIn _) (h .hours .given .1)) (z .zone-minutes .ensures ∙ ap (numberIn _) (c .enum-told2 .given .1))
+returns-2 c = offset (c .before .before) _ (c .enum-told2 .given .1)
 
 returns-3 : tie.Need-returns-3
-returns-3 c =
-    let z = c .before .before .before in
-    let h = z .before .before in
-    let d = h .before .before in
-    let t = d .before .before in
-    let a = t .before .before .before .before .args in
-    offset-is (a .s .now) (a .at) (yes t) _ _ _ (d .two-digits .ensures ∙ ap (numberIn _) (h .hours .given .1)) (z .zone-minutes .ensures ∙ ap (numberIn _) (c .before .minutes .given .1))
+returns-3 c = offset (c .before .before .before) _ (c .before .minutes .given .1)
 
 returns-4 : tie.Need-returns-4
 returns-4 c = let a = c .before .before .before .before .args in offset-none (drop (a .at) (a .s .now)) (sym (c .before .starts-in .ensures) ∙ c .if1 .left)

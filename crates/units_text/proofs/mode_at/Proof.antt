@@ -5,7 +5,11 @@ use mathlib.Core.Bool.{true}
 use lib.ListN.{drop}
 use Rattle.grammar.specs.Answers.{endIn}
 use Rattle.grammar.specs.Grammar.{inside, within, every, starts}
+use Rattle.grammar.specs.Reader.{given, scan}
 use Rattle.grammar.specs.Rules.{either}
+use Rattle.grammar.specs.declared.EndAt.{EndAt}
+use Rattle.period.specs.declared.Mode.{Mode}
+use Rattle.units_text.specs.UnitsRule.{mode}
 use Rattle.units_text.proofs.Steps.{mode-none, mode-no, mode-is}
 use Rattle.units_text.proofs.mode_at.Statement.{statement}
 use Rattle.units_text.proofs.mode_at.Tie as tie
@@ -35,6 +39,15 @@ returns c =
     let t = w .before .before in
     mode-no _ (yes t) (w .word-at .ensures ∙ ap (endIn _) (c .enum-told .given .1))
 
+-- the mode, by what is found after the word
+named : (g : tie.After-spaces-at) (o : EndAt) → g .spaces-at .result ≡ o
+    → let a = g .before .before .before .before .before .before .before .before .before .args in
+    scan mode (drop (a .at) (a .s .now)) ≡ given (λ (v : Unit {0}). Mode.Calendar) (endIn (a .s .now) o)
+named g o e =
+    let b = g .before .before in
+    let w = b .before .before in
+    mode-is _ (yes (w .before .before)) _ _ (w .word-at .ensures ∙ ap (endIn _) (b .b .given .1)) (g .spaces-at .ensures ∙ ap (endIn _) e)
+
 spaces-at-requires : tie.Need-spaces-at-requires
 spaces-at-requires c κs = search needs
 
@@ -45,20 +58,10 @@ enum-told-2 : tie.Need-enum-told-2
 enum-told-2 c = search needs
 
 returns-2 : tie.Need-returns-2
-returns-2 c =
-    let g = c .before .before in
-    let b = g .before .before in
-    let w = b .before .before in
-    let t = w .before .before in
-    mode-is _ (yes t) _ _ (w .word-at .ensures ∙ ap (endIn _) (b .b .given .1)) (g .spaces-at .ensures ∙ ap (endIn _) (c .enum-told2 .given .1))
+returns-2 c = named (c .before .before) _ (c .enum-told2 .given .1)
 
 returns-3 : tie.Need-returns-3
-returns-3 c =
-    let g = c .before .before .before in
-    let b = g .before .before in
-    let w = b .before .before in
-    let t = w .before .before in
-    mode-is _ (yes t) _ _ (w .word-at .ensures ∙ ap (endIn _) (b .b .given .1)) (g .spaces-at .ensures ∙ ap (endIn _) (c .before .e .given .1))
+returns-3 c = named (c .before .before .before) _ (c .before .e .given .1)
 
 returns-4 : tie.Need-returns-4
 returns-4 c = let a = c .before .before .before .args in mode-none (drop (a .at) (a .s .now)) (sym (c .before .letter-at .ensures) ∙ c .if1 .left)

@@ -1,0 +1,101 @@
+-- `runs::each::write_doubles` meets its contract: proofs/Passes.antt, with the axis's reading.
+use mathlib.Core.Path.{_≡_, sym, ap, _∙_}
+use mathlib.Core.List.{List}
+use Prim.Native.Nat.{ℕ, _-_}
+use native.Mathlib.Omega.{arith}
+use lib.IntN.{ℤ}
+use lib.ListN.{length}
+use lib.Ieee.{Float}
+use mir.Syntax.{w64}
+use mir.Val.{toZ, ofZ}
+use mir.ValLaws.{toZ-ofZ}
+use Rattle.double.specs.Reading.{instantOf}
+use Rattle.double.specs.declared.Reading.{Reading}
+use Rattle.fixed_axis.specs.Fixed.{readDouble}
+use Rattle.runs.specs.Run.{markOf, rounded, overlaid}
+use Rattle.runs.proofs.Passes.{mark-le, Writing, writing-starts, writing-on, writing-ends}
+use borrow.Author.Needs.{needs}
+use Rattle.runs.proofs.each.write_doubles.Statement.{statement}
+use Rattle.runs.proofs.each.write_doubles.Tie as tie
+
+abbrev Inv-loop : tie.InvT-loop
+Inv-loop c p reference source destination₀ count₀ i₀ destination count i = Writing (readDouble c p (toZ w64 reference)) source destination₀ destination count i
+
+abbrev μ-loop : tie.MeasureT-loop
+μ-loop c p reference source destination₀ count₀ i₀ destination count i = length source - i
+
+abbrev read : tie.Start Inv-loop μ-loop → Float → Reading
+read a = readDouble (a .args .c) (a .args .p) (toZ w64 (ofZ w64 (a .args .reference)))
+
+loop-holds : tie.Need-loop-holds Inv-loop μ-loop
+loop-holds c = writing-starts _ _ _ (c .before .pre)
+
+mul-read-double : tie.Need-mul-read-double Inv-loop μ-loop
+mul-read-double c = search needs
+
+shared-slice-read-read-double : tie.Need-shared-slice-read-read-double Inv-loop μ-loop
+shared-slice-read-read-double c = search needs
+
+read-double-requires : tie.Need-read-double-requires Inv-loop μ-loop
+read-double-requires c κs = search needs
+
+instant-requires : tie.Need-instant-requires Inv-loop μ-loop
+instant-requires c κs = search needs
+
+mul-t9 : tie.Need-mul-t9 Inv-loop μ-loop
+mul-t9 c = search needs
+
+slice-set-from-destination : tie.Need-slice-set-from-destination Inv-loop μ-loop
+slice-set-from-destination c = search needs
+
+mark-requires : tie.Need-mark-requires Inv-loop μ-loop
+mark-requires c κs = search needs
+
+add-count : tie.Need-add-count Inv-loop μ-loop
+add-count c = record { fits = omega (arith, mark-le (c .before .before .read-double .result)) }
+
+add-i : tie.Need-add-i Inv-loop μ-loop
+add-i c = search needs
+
+loop-less : tie.Need-loop-less Inv-loop μ-loop
+loop-less c = search needs
+
+loop-again : tie.Need-loop-again Inv-loop μ-loop
+loop-again c =
+    let l = c .before .before .before .before .before in
+    let a = l .before .before in
+    let e = c .before .before .read-double .ensures in
+    let v = toZ-ofZ w64 (c .before .instant .result) (record { sfits = c .before .instant .ok }) in
+    writing-on (read a) (a .args .source .now) (a .args .destination .now) (l .loop .destination) (l .loop .count) (l .loop .i) _ _ _ (l .loop .inv) (c .before .before .before .before .loop-test .taken) (v ∙ (c .before .instant .ensures ∙ ap instantOf (e))) (c .mark .ensures ∙ ap markOf (e))
+
+same-length : tie.Need-same-length Inv-loop μ-loop
+same-length c = search needs
+
+returns : tie.Need-returns Inv-loop μ-loop
+returns c =
+    let l = c .before in
+    let a = l .before .before in
+    let w = writing-ends (read a) (a .args .source .now) (a .args .destination .now) (l .loop .destination) (l .loop .count) (l .loop .i) (l .loop .inv) (c .loop-test .left) in
+    let s = toZ-ofZ w64 (a .args .reference) (a .fits .reference) in
+    (w .0 ∙ ap (λ (z : ℤ). rounded (readDouble (a .args .c) (a .args .p) z) (a .args .source .now)) s, w .1 ∙ ap (λ (z : ℤ). overlaid (readDouble (a .args .c) (a .args .p) z) (a .args .source .now) (a .args .destination .now)) s)
+
+pub write-doubles-spec : {M : Type 1} → statement M
+write-doubles-spec =
+    tie.close
+    (tie.spec
+    Inv-loop
+    μ-loop
+    loop-holds
+    mul-read-double
+    shared-slice-read-read-double
+    read-double-requires
+    instant-requires
+    mul-t9
+    slice-set-from-destination
+    mark-requires
+    add-count
+    add-i
+    loop-less
+    loop-again
+    same-length
+    returns)

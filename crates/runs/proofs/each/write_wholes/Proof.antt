@@ -1,0 +1,100 @@
+-- `runs::each::write_wholes` meets its contract: proofs/Passes.antt, with the axis's reading.
+use mathlib.Core.Path.{_≡_, sym, ap, _∙_}
+use mathlib.Core.List.{List}
+use Prim.Native.Nat.{ℕ, _-_}
+use native.Mathlib.Omega.{arith}
+use lib.IntN.{ℤ, pos}
+use lib.ListN.{length, getD}
+use mir.Syntax.{w64}
+use mir.Val.{toZ, ofZ}
+use mir.ValLaws.{toZ-ofZ}
+use Rattle.double.specs.Reading.{instantOf}
+use Rattle.double.specs.declared.Reading.{Reading}
+use Rattle.fixed_axis.specs.Fixed.{readWhole}
+use Rattle.runs.specs.Run.{markOf, rounded, overlaid}
+use Rattle.runs.proofs.Passes.{mark-le, Writing, writing-starts, writing-on, writing-ends}
+use borrow.Author.Needs.{needs}
+use Rattle.runs.proofs.each.write_wholes.Statement.{statement}
+use Rattle.runs.proofs.each.write_wholes.Tie as tie
+
+abbrev Inv-loop : tie.InvT-loop
+Inv-loop c p reference source destination₀ count₀ i₀ destination count i = Writing (readWhole c p (toZ w64 reference)) source destination₀ destination count i
+
+abbrev μ-loop : tie.MeasureT-loop
+μ-loop c p reference source destination₀ count₀ i₀ destination count i = length source - i
+
+abbrev read : tie.Start Inv-loop μ-loop → ℤ → Reading
+read a = readWhole (a .args .c) (a .args .p) (toZ w64 (ofZ w64 (a .args .reference)))
+
+loop-holds : tie.Need-loop-holds Inv-loop μ-loop
+loop-holds c = writing-starts _ _ _ (c .pre)
+
+mul-read-whole : tie.Need-mul-read-whole Inv-loop μ-loop
+mul-read-whole c = search needs
+
+shared-slice-copy-out-read-whole : tie.Need-shared-slice-copy-out-read-whole Inv-loop μ-loop
+shared-slice-copy-out-read-whole c = search needs
+
+read-whole-requires : tie.Need-read-whole-requires Inv-loop μ-loop
+read-whole-requires c κs = search needs
+
+instant-requires : tie.Need-instant-requires Inv-loop μ-loop
+instant-requires c κs = search needs
+
+mul-t9 : tie.Need-mul-t9 Inv-loop μ-loop
+mul-t9 c = search needs
+
+slice-set-from-destination : tie.Need-slice-set-from-destination Inv-loop μ-loop
+slice-set-from-destination c = search needs
+
+mark-requires : tie.Need-mark-requires Inv-loop μ-loop
+mark-requires c κs = search needs
+
+add-count : tie.Need-add-count Inv-loop μ-loop
+add-count c = record { fits = omega (arith, mark-le (c .before .before .read-whole .result)) }
+
+add-i : tie.Need-add-i Inv-loop μ-loop
+add-i c = search needs
+
+loop-less : tie.Need-loop-less Inv-loop μ-loop
+loop-less c = search needs
+
+loop-again : tie.Need-loop-again Inv-loop μ-loop
+loop-again c =
+    let l = c .before .before .before .before .before in
+    let a = l .before in
+    let e = c .before .before .read-whole .ensures ∙ ap (read a) (toZ-ofZ w64 (getD (a .args .source .now) (l .loop .i) (pos 0)) (record { sfits = c .before .before .before .read-whole-arg .given })) in
+    let v = toZ-ofZ w64 (c .before .instant .result) (record { sfits = c .before .instant .ok }) in
+    writing-on (read a) (a .args .source .now) (a .args .destination .now) (l .loop .destination) (l .loop .count) (l .loop .i) (pos 0) _ _ (l .loop .inv) (c .before .before .before .before .loop-test .taken) (v ∙ (c .before .instant .ensures ∙ ap instantOf (e))) (c .mark .ensures ∙ ap markOf (e))
+
+same-length : tie.Need-same-length Inv-loop μ-loop
+same-length c = search needs
+
+returns : tie.Need-returns Inv-loop μ-loop
+returns c =
+    let l = c .before in
+    let a = l .before in
+    let w = writing-ends (read a) (a .args .source .now) (a .args .destination .now) (l .loop .destination) (l .loop .count) (l .loop .i) (l .loop .inv) (c .loop-test .left) in
+    let s = toZ-ofZ w64 (a .args .reference) (a .fits .reference) in
+    (w .0 ∙ ap (λ (z : ℤ). rounded (readWhole (a .args .c) (a .args .p) z) (a .args .source .now)) s, w .1 ∙ ap (λ (z : ℤ). overlaid (readWhole (a .args .c) (a .args .p) z) (a .args .source .now) (a .args .destination .now)) s)
+
+pub write-wholes-spec : {M : Type 1} → statement M
+write-wholes-spec =
+    tie.close
+    (tie.spec
+    Inv-loop
+    μ-loop
+    loop-holds
+    mul-read-whole
+    shared-slice-copy-out-read-whole
+    read-whole-requires
+    instant-requires
+    mul-t9
+    slice-set-from-destination
+    mark-requires
+    add-count
+    add-i
+    loop-less
+    loop-again
+    same-length
+    returns)

@@ -1,0 +1,154 @@
+// A lent run of offsets read at once into a lent run of instants, all or nothing. A reader may rely on specs/Run.antt.
+ghost use mathlib.Core.Path.{_≡_};
+ghost use mathlib.Core.Bool.{cond};
+ghost use Rattle.instant.specs.Instant.{inRange};
+ghost use Rattle.double.specs.Reading.{instantOf};
+ghost use Rattle.fixed_axis.specs.Fixed.{readDouble, readWhole};
+ghost use Rattle.runs.specs.Run.{markOf, runCheck, runAnswer, runWritten};
+use calendar::Calendar;
+use double::Reading;
+use period::Period;
+use refusal::Refusal;
+
+pub mod each;
+
+// Whether every offset of a run is read, or the first refusal and its place, counted from 0.
+pub enum Check {
+    AllRead,
+    Refused { refusal: Refusal, place: usize },
+}
+
+// The answer of a run: 0, the source's length and how many offsets were rounded; or the number of a refusal and its place.
+#[repr(C)]
+pub struct RunAnswer {
+    pub number: u32,
+    pub place: usize,
+    pub length: usize,
+    pub rounded: usize,
+}
+
+// The instant of a reading, 0 of a refusal.
+fn instant(r: Reading) -> i64
+    ensures { λ t. ⌜ t ≡ instantOf r ⌝ }
+{
+    match r {
+        Reading::At(t, _) => t,
+        Reading::Refused(_) => 0,
+    }
+}
+
+// 1 where a reading was rounded.
+fn unless(exact: bool) -> usize
+    ensures { λ n. ⌜ n ≡ cond exact 0 1 ⌝ }
+{
+    if exact { 0 } else { 1 }
+}
+
+fn mark(r: Reading) -> usize
+    ensures { λ n. ⌜ n ≡ markOf r ⌝ }
+{
+    match r {
+        Reading::At(_, exact) => unless(exact),
+        Reading::Refused(_) => 0,
+    }
+}
+
+// What a run of doubles comes to: OutOfRange for the reference, then NoRoom, then its first refused offset.
+fn check_doubles(c: Calendar, p: Period, reference: i64, source: &[f64], room: usize) -> Check
+    ensures { λ r. ⌜ r ≡ runCheck (readDouble c p reference) (inRange c reference) (now (source .entry)) room ⌝ }
+{
+    if fixed_axis::in_range(c, signed::biased(reference)) {
+        if room < source.len() {
+            return Check::Refused {
+                refusal: Refusal::NoRoom,
+                place: 0,
+            };
+        }
+        return each::check_doubles(c, p, reference, source);
+    }
+    return Check::Refused {
+        refusal: Refusal::OutOfRange,
+        place: 0,
+    };
+}
+
+// A run of doubles.
+pub fn read_doubles(
+    c: Calendar,
+    p: Period,
+    reference: i64,
+    source: &[f64],
+    destination: &mut [i64],
+) -> RunAnswer
+    ensures answered { λ r. ⌜ r ≡ runAnswer (readDouble c p reference) (inRange c reference) (now (source .entry)) (now (destination .entry)) ⌝ }
+    ensures written { λ _. ⌜ now (destination .exit) ≡ runWritten (readDouble c p reference) (inRange c reference) (now (source .entry)) (now (destination .entry)) ⌝ }
+{
+    let checked = check_doubles(c, p, reference, source, destination.len());
+    match checked {
+        Check::Refused { refusal, place } => RunAnswer {
+            number: refusal::number(refusal),
+            place,
+            length: 0,
+            rounded: 0,
+        },
+        Check::AllRead => {
+            let rounded = each::write_doubles(c, p, reference, source, destination);
+            RunAnswer {
+                number: 0,
+                place: 0,
+                length: source.len(),
+                rounded,
+            }
+        }
+    }
+}
+
+// What a run of wholes comes to: OutOfRange for the reference, then NoRoom, then its first refused offset.
+fn check_wholes(c: Calendar, p: Period, reference: i64, source: &[i64], room: usize) -> Check
+    ensures { λ r. ⌜ r ≡ runCheck (readWhole c p reference) (inRange c reference) (now (source .entry)) room ⌝ }
+{
+    if fixed_axis::in_range(c, signed::biased(reference)) {
+        if room < source.len() {
+            return Check::Refused {
+                refusal: Refusal::NoRoom,
+                place: 0,
+            };
+        }
+        return each::check_wholes(c, p, reference, source);
+    }
+    return Check::Refused {
+        refusal: Refusal::OutOfRange,
+        place: 0,
+    };
+}
+
+// A run of wholes.
+pub fn read_wholes(
+    c: Calendar,
+    p: Period,
+    reference: i64,
+    source: &[i64],
+    destination: &mut [i64],
+) -> RunAnswer
+    ensures answered { λ r. ⌜ r ≡ runAnswer (readWhole c p reference) (inRange c reference) (now (source .entry)) (now (destination .entry)) ⌝ }
+    ensures written { λ _. ⌜ now (destination .exit) ≡ runWritten (readWhole c p reference) (inRange c reference) (now (source .entry)) (now (destination .entry)) ⌝ }
+{
+    let checked = check_wholes(c, p, reference, source, destination.len());
+    match checked {
+        Check::Refused { refusal, place } => RunAnswer {
+            number: refusal::number(refusal),
+            place,
+            length: 0,
+            rounded: 0,
+        },
+        Check::AllRead => {
+            let rounded = each::write_wholes(c, p, reference, source, destination);
+            RunAnswer {
+                number: 0,
+                place: 0,
+                length: source.len(),
+                rounded,
+            }
+        }
+    }
+}

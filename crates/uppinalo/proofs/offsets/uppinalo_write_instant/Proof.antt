@@ -1,0 +1,57 @@
+-- `uppinalo::offsets::uppinalo_write_instant` meets its contract. Assumes nothing.
+use mathlib.Core.Path.{sym, ap, _∙_}
+use Rattle.axis.specs.Axis.{writeInstantOn}
+use Rattle.axis_record.specs.declared.Axis.{Axis}
+use Rattle.uppinalo.specs.Offsets.{ofOffset, writeOn}
+use Rattle.uppinalo.specs.declared.codes.CodedAxis.{CodedAxis}
+use lib.IntN.{ℤ}
+use mir.Syntax.{w64}
+use mir.ValLaws.{toZ-ofZ}
+use borrow.Author.Needs.{needs}
+use Rattle.uppinalo.proofs.offsets.uppinalo_write_instant.Statement.{statement}
+use Rattle.uppinalo.proofs.offsets.uppinalo_write_instant.Tie as tie
+
+axis-of-requires : tie.Need-axis-of-requires
+axis-of-requires c κs = search needs
+
+enum-known-r : tie.Need-enum-known-r
+enum-known-r c = search needs
+
+no-offset-requires : tie.Need-no-offset-requires
+no-offset-requires c κs = search needs
+
+returns : tie.Need-returns
+returns c =
+    let k = c .before .before .before .before in
+    let s = k .before in
+    c .no-offset .ensures ∙ ap (λ (x : CodedAxis). writeOn x (λ (a : Axis). writeInstantOn a (s .args .instant))) (sym (c .before .before .r .given .1) ∙ k .axis-of .ensures)
+
+enum-known-a : tie.Need-enum-known-a
+enum-known-a c = search needs
+
+write-instant-requires : tie.Need-write-instant-requires
+write-instant-requires c κs = search needs
+
+of-offset-requires : tie.Need-of-offset-requires
+of-offset-requires c κs = search needs
+
+returns-2 : tie.Need-returns-2
+returns-2 c =
+    let v = c .before .before .before in
+    let k = v .before .before in
+    let s = k .before in
+    c .of-offset .ensures
+    ∙ (ap ofOffset (c .before .write-instant .ensures ∙ ap (λ (z : ℤ). writeInstantOn (v .a .given .0 .0) z) (toZ-ofZ w64 (s .args .instant) (s .fits .instant))) ∙ ap (λ (x : CodedAxis). writeOn x (λ (a : Axis). writeInstantOn a (s .args .instant))) (sym (v .a .given .1) ∙ k .axis-of .ensures))
+
+pub uppinalo-write-instant-spec : {M : Type 1} → statement M
+uppinalo-write-instant-spec =
+    tie.close
+    (tie.spec
+    axis-of-requires
+    enum-known-r
+    no-offset-requires
+    returns
+    enum-known-a
+    write-instant-requires
+    of-offset-requires
+    returns-2)

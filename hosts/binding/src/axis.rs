@@ -1,0 +1,143 @@
+//! Axes, and offsets on them.
+
+use crate::boundary;
+use crate::calendar::Calendar;
+use crate::refusal::{Refusal, RefusedRun, tested};
+use answers::{Fields, RunAnswer};
+
+#[derive(Clone, Copy, PartialEq, Eq, Hash, Debug)]
+pub enum Period {
+    Second,
+    Millisecond,
+    Minute,
+    Hour,
+    Day,
+    Week,
+    Month,
+    Year,
+}
+
+const PERIODS: [Period; 8] = [
+    Period::Second,
+    Period::Millisecond,
+    Period::Minute,
+    Period::Hour,
+    Period::Day,
+    Period::Week,
+    Period::Month,
+    Period::Year,
+];
+
+#[derive(Clone, Copy, PartialEq, Eq, Hash, Debug)]
+pub enum Mode {
+    Fixed,
+    Calendar,
+}
+
+#[derive(Clone, Copy, PartialEq, Eq, Hash, Debug)]
+pub struct Axis {
+    pub calendar: Calendar,
+    pub period: Period,
+    pub mode: Mode,
+    pub reference: i64,
+}
+
+#[derive(Clone, Copy, PartialEq, Debug)]
+pub enum Offset {
+    Whole(i64),
+    Double(f64),
+}
+
+impl From<i64> for Offset {
+    fn from(offset: i64) -> Offset {
+        Offset::Whole(offset)
+    }
+}
+
+impl From<i32> for Offset {
+    fn from(offset: i32) -> Offset {
+        Offset::Whole(offset.into())
+    }
+}
+
+impl From<f64> for Offset {
+    fn from(offset: f64) -> Offset {
+        Offset::Double(offset)
+    }
+}
+
+/// An instant, and whether it is exactly what was read and not the nearest microsecond to it.
+#[derive(Clone, Copy, PartialEq, Eq, Debug)]
+pub struct Reading {
+    pub instant: i64,
+    pub exact: bool,
+}
+
+impl Reading {
+    pub(crate) fn of_answer(answer: answers::Reading) -> Result<Reading, Refusal> {
+        tested(answer.number).map(|()| Reading { instant: answer.instant, exact: answer.exact != 0 })
+    }
+}
+
+/// A run that is read: how many offsets it has, and how many of them were rounded.
+#[derive(Clone, Copy, PartialEq, Eq, Debug)]
+pub struct Run {
+    pub length: usize,
+    pub rounded: usize,
+}
+
+impl Run {
+    fn of_answer(answer: RunAnswer) -> Result<Run, RefusedRun> {
+        let RunAnswer { number, place, length, rounded } = answer;
+        tested(number).map(|()| Run { length, rounded }).map_err(|refusal| RefusedRun { refusal, place })
+    }
+}
+
+impl Axis {
+    /// The axis of a units text, such as `days since 1850-01-01`, in the calendar of a name.
+    pub fn of_units(calendar: &str, units: &str) -> Result<Axis, Refusal> {
+        let answer = boundary::read_units(calendar.as_bytes(), units.as_bytes());
+        tested(answer.number)?;
+        let answers::Axis { calendar, period, mode, reference } = answer.axis;
+        Ok(Axis {
+            calendar: Calendar::of_code(calendar).expect("a calendar's code"),
+            period: PERIODS[period as usize],
+            mode: if mode == 0 { Mode::Fixed } else { Mode::Calendar },
+            reference,
+        })
+    }
+
+    fn codes(self) -> answers::Axis {
+        let Axis { calendar, period, mode, reference } = self;
+        answers::Axis { calendar: calendar.code(), period: period as u32, mode: mode as u32, reference }
+    }
+
+    pub fn read(self, offset: impl Into<Offset>) -> Result<Reading, Refusal> {
+        Reading::of_answer(match offset.into() {
+            Offset::Whole(offset) => boundary::read_whole(self.codes(), offset),
+            Offset::Double(offset) => boundary::read_double(self.codes(), offset),
+        })
+    }
+
+    /// The whole offset that reads as an instant.
+    pub fn write(self, instant: i64) -> Result<i64, Refusal> {
+        let answer = boundary::write_instant(self.codes(), instant);
+        tested(answer.number).map(|()| answer.offset)
+    }
+
+    /// The whole offset that reads as the instant of some fields.
+    pub fn write_fields(self, fields: Fields) -> Result<i64, Refusal> {
+        let answer = boundary::write_fields(self.codes(), fields);
+        tested(answer.number).map(|()| answer.offset)
+    }
+
+    /// Reads every offset to its place of the destination, or none.
+    pub fn read_wholes(self, source: &[i64], destination: &mut [i64]) -> Result<Run, RefusedRun> {
+        Run::of_answer(boundary::read_wholes(self.codes(), source, destination))
+    }
+
+    /// Reads every offset to its place of the destination, or none.
+    pub fn read_doubles(self, source: &[f64], destination: &mut [i64]) -> Result<Run, RefusedRun> {
+        Run::of_answer(boundary::read_doubles(self.codes(), source, destination))
+    }
+}

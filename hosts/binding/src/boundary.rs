@@ -1,0 +1,55 @@
+//! The calls of the archive with their codes and numbers, for slices in the place of pointers. Any code, number and slice may be given:
+//! the archive refuses what it does not know, and an answer holds no type for which some bytes are not allowed.
+
+use crate::raw;
+use answers::*;
+
+pub fn read_units(calendar: &[u8], text: &[u8]) -> AxisAnswer {
+    unsafe { raw::uppinalo_read_units(calendar.as_ptr(), calendar.len(), text.as_ptr(), text.len()) }
+}
+
+pub fn read_iso(calendar: &[u8], text: &[u8]) -> Reading {
+    unsafe { raw::uppinalo_read_iso(calendar.as_ptr(), calendar.len(), text.as_ptr(), text.len()) }
+}
+
+pub fn write_iso(calendar: u32, instant: i64, room: &mut [u8]) -> LengthAnswer {
+    unsafe { raw::uppinalo_write_iso(calendar, instant, room.as_mut_ptr(), room.len()) }
+}
+
+pub fn fields_of(calendar: u32, instant: i64) -> FieldsAnswer {
+    unsafe { raw::uppinalo_fields_of(calendar, instant) }
+}
+
+pub fn date_of_day(calendar: u32, day: i64) -> DateAnswer {
+    unsafe { raw::uppinalo_date_of_day(calendar, day) }
+}
+
+pub fn day_of_date(calendar: u32, date: Date) -> DayAnswer {
+    unsafe { raw::uppinalo_day_of_date(calendar, date) }
+}
+
+pub fn read_whole(axis: Axis, offset: i64) -> Reading {
+    unsafe { raw::uppinalo_read_whole(axis, offset) }
+}
+
+pub fn read_double(axis: Axis, offset: f64) -> Reading {
+    unsafe { raw::uppinalo_read_double(axis, offset) }
+}
+
+pub fn write_instant(axis: Axis, instant: i64) -> OffsetAnswer {
+    unsafe { raw::uppinalo_write_instant(axis, instant) }
+}
+
+pub fn write_fields(axis: Axis, fields: Fields) -> OffsetAnswer {
+    unsafe { raw::uppinalo_write_fields(axis, fields) }
+}
+
+pub fn read_wholes(axis: Axis, source: &[i64], destination: &mut [i64]) -> RunAnswer {
+    let (from, n) = (source.as_ptr(), source.len());
+    unsafe { raw::uppinalo_read_wholes(axis, from, n, destination.as_mut_ptr(), destination.len()) }
+}
+
+pub fn read_doubles(axis: Axis, source: &[f64], destination: &mut [i64]) -> RunAnswer {
+    let (from, n) = (source.as_ptr(), source.len());
+    unsafe { raw::uppinalo_read_doubles(axis, from, n, destination.as_mut_ptr(), destination.len()) }
+}

@@ -1,0 +1,90 @@
+//! Why a call gives no result.
+
+use std::error::Error;
+use std::fmt::{Display, Formatter, Result};
+
+#[derive(Clone, Copy, PartialEq, Eq, Debug)]
+pub enum Refusal {
+    TextTooLong,
+    UnknownCalendar,
+    IllFormed,
+    NoSuchDate,
+    OutOfRange,
+    Inexact,
+    NoRoom,
+    NotFinite,
+    /// A number for which this crate has no name.
+    Other(u32),
+}
+
+impl Refusal {
+    fn of_number(number: u32) -> Refusal {
+        match number {
+            1 => Refusal::TextTooLong,
+            2 => Refusal::UnknownCalendar,
+            3 => Refusal::IllFormed,
+            4 => Refusal::NoSuchDate,
+            5 => Refusal::OutOfRange,
+            6 => Refusal::Inexact,
+            7 => Refusal::NoRoom,
+            8 => Refusal::NotFinite,
+            _ => Refusal::Other(number),
+        }
+    }
+
+    pub fn number(self) -> u32 {
+        match self {
+            Refusal::TextTooLong => 1,
+            Refusal::UnknownCalendar => 2,
+            Refusal::IllFormed => 3,
+            Refusal::NoSuchDate => 4,
+            Refusal::OutOfRange => 5,
+            Refusal::Inexact => 6,
+            Refusal::NoRoom => 7,
+            Refusal::NotFinite => 8,
+            Refusal::Other(number) => number,
+        }
+    }
+
+    pub fn words(self) -> &'static str {
+        match self {
+            Refusal::TextTooLong => "the text has more than 128 bytes",
+            Refusal::UnknownCalendar => "the calendar is not one of the six",
+            Refusal::IllFormed => "the text does not follow its grammar, or a code names no period or mode",
+            Refusal::NoSuchDate => "the date or the time of day does not exist in the calendar",
+            Refusal::OutOfRange => "the year or the instant lies past -9999 to 9999",
+            Refusal::Inexact => "no whole offset reads as the instant; in calendar mode, the double is not whole",
+            Refusal::NoRoom => "the lent room is too short",
+            Refusal::NotFinite => "the double is not finite",
+            Refusal::Other(_) => "a refusal that this crate has no words for",
+        }
+    }
+}
+
+/// What an answer's number says: success, or why not.
+pub(crate) fn tested(number: u32) -> std::result::Result<(), Refusal> {
+    if number == 0 { Ok(()) } else { Err(Refusal::of_number(number)) }
+}
+
+impl Display for Refusal {
+    fn fmt(&self, out: &mut Formatter) -> Result {
+        write!(out, "refused {}: {}", self.number(), self.words())
+    }
+}
+
+impl Error for Refusal {}
+
+/// Why a run is refused, and the place, from 0, of its first refused offset. The place is 0 where no offset is at fault.
+#[derive(Clone, Copy, PartialEq, Eq, Debug)]
+pub struct RefusedRun {
+    pub refusal: Refusal,
+    pub place: usize,
+}
+
+impl Display for RefusedRun {
+    fn fmt(&self, out: &mut Formatter) -> Result {
+        write!(out, "{}, at place {}", self.refusal, self.place)
+    }
+}
+
+impl Error for RefusedRun {}

@@ -1,0 +1,121 @@
+//! The safe wrapper, call by call, on cases by hand of document 01. A call that the archive does not export yet is not tried.
+
+use uppinalo::*;
+
+const NOON: i64 = 43_200_000_000;
+
+fn are_exported(calls: &[&str]) -> bool {
+    let missing: Vec<&&str> = calls.iter().filter(|call| !is_exported(call)).collect();
+    if !missing.is_empty() {
+        println!("not tried, since these calls are not exported yet: {missing:?}");
+    }
+    missing.is_empty()
+}
+
+fn axis(calendar: Calendar, period: Period, mode: Mode, reference: i64) -> Axis {
+    Axis { calendar, period, mode, reference }
+}
+
+/// The rows of README.md's table of refusals.
+#[test]
+fn words() {
+    use Refusal::*;
+    let readme = include_str!("../../../README.md");
+    for refusal in [TextTooLong, UnknownCalendar, IllFormed, NoSuchDate, OutOfRange, Inexact, NoRoom, NotFinite] {
+        let row = format!("\n| {} | {} |\n", refusal.number(), refusal.words());
+        assert!(readme.contains(&row), "{refusal}");
+    }
+}
+
+#[test]
+fn days() {
+    if !are_exported(&["date_of_day", "day_of_date"]) {
+        return;
+    }
+    let day = Calendar::Standard.day_of_date(Date { year: 1582, month: 10, day: 4 }).unwrap();
+    assert_eq!(Calendar::Standard.date_of_day(day + 1), Ok(Date { year: 1582, month: 10, day: 15 }));
+    assert_eq!(
+        Calendar::Standard.day_of_date(Date { year: 1582, month: 10, day: 5 }).unwrap_err(),
+        Refusal::NoSuchDate
+    );
+    assert_eq!(Calendar::Julian.date_of_day(i64::MAX), Err(Refusal::OutOfRange));
+}
+
+#[test]
+fn fields() {
+    if !are_exported(&["fields_of"]) {
+        return;
+    }
+    let fields = Calendar::Noleap.fields_of(-1).unwrap();
+    assert_eq!((fields.year, fields.month, fields.day, fields.microsecond), (1969, 12, 31, 999_999));
+    assert_eq!(Calendar::Noleap.fields_of(i64::MIN), Err(Refusal::OutOfRange));
+}
+
+#[test]
+fn units() {
+    if !are_exported(&["read_units"]) {
+        return;
+    }
+    let expected = axis(Calendar::Day360, Period::Month, Mode::Calendar, NOON);
+    assert_eq!(Axis::of_units("360_day", "calendar months since 1970-01-01 12:00"), Ok(expected));
+    assert_eq!(Axis::of_units("tai", "days since 1970"), Err(Refusal::UnknownCalendar));
+    assert_eq!(Axis::of_units("", "ss since 1970"), Err(Refusal::IllFormed));
+    assert_eq!(Axis::of_units("", &"d".repeat(129)), Err(Refusal::TextTooLong));
+}
+
+#[test]
+fn iso() {
+    if !are_exported(&["read_iso", "write_iso"]) {
+        return;
+    }
+    let text = "1969-12-31T12:00:00.000000Z";
+    assert_eq!(read_iso("", text), Ok(Reading { instant: -NOON, exact: true }));
+    assert_eq!(Calendar::Standard.iso_text(-NOON).as_deref(), Ok(text));
+    assert_eq!(Calendar::Standard.write_iso(0, &mut [0; 26]), Err(Refusal::NoRoom));
+    assert_eq!(Calendar::Standard.iso_text(i64::MAX), Err(Refusal::OutOfRange));
+}
+
+#[test]
+fn one_offset() {
+    if !are_exported(&["read_whole", "read_double"]) {
+        return;
+    }
+    let days = axis(Calendar::Standard, Period::Day, Mode::Fixed, 0);
+    assert_eq!(days.read(-1), Ok(Reading { instant: -2 * NOON, exact: true }));
+    assert_eq!(days.read(0.5), Ok(Reading { instant: NOON, exact: true }));
+    assert_eq!(days.read(0.1), Ok(Reading { instant: 8_640_000_000, exact: false }));
+    assert_eq!(days.read(2_932_897_i64), Err(Refusal::OutOfRange));
+    assert_eq!(days.read(f64::NAN), Err(Refusal::NotFinite));
+    let past = Axis { reference: i64::MAX, ..days };
+    assert_eq!(past.read(f64::NAN), Err(Refusal::OutOfRange));
+}
+
+#[test]
+fn writing() {
+    if !are_exported(&["write_instant", "write_fields"]) {
+        return;
+    }
+    let days = axis(Calendar::AllLeap, Period::Day, Mode::Fixed, 0);
+    assert_eq!(days.write(6 * NOON), Ok(3));
+    assert_eq!(days.write(NOON), Err(Refusal::Inexact));
+    let fields = Fields { year: 1970, month: 2, day: 30, ..Default::default() };
+    assert_eq!(days.write_fields(fields), Err(Refusal::NoSuchDate));
+    assert_eq!(days.write_fields(Fields { day: 29, ..fields }), Ok(59));
+}
+
+#[test]
+fn runs() {
+    if !are_exported(&["read_wholes", "read_doubles"]) {
+        return;
+    }
+    let days = axis(Calendar::Standard, Period::Day, Mode::Fixed, 0);
+    let mut room = [7; 3];
+    assert_eq!(days.read_doubles(&[0.5, 0.1], &mut room), Ok(Run { length: 2, rounded: 1 }));
+    assert_eq!(room, [NOON, 8_640_000_000, 7]);
+    let refused = RefusedRun { refusal: Refusal::OutOfRange, place: 1 };
+    assert_eq!(days.read_wholes(&[0, i64::MAX], &mut room), Err(refused));
+    let short = RefusedRun { refusal: Refusal::NoRoom, place: 0 };
+    assert_eq!(days.read_wholes(&[0; 4], &mut room), Err(short));
+    assert_eq!(room, [NOON, 8_640_000_000, 7]);
+    assert_eq!(days.read_wholes(&[], &mut []), Ok(Run { length: 0, rounded: 0 }));
+}

@@ -1,0 +1,135 @@
+/* Inputs drawn from a seed: codes, instants, offsets and texts, good, damaged and at random. */
+#ifndef DRAW_H
+#define DRAW_H
+
+#include "../../include/uppinalo.h"
+#include <string.h>
+
+static uint64_t state;
+
+/* SplitMix64 */
+static uint64_t bits(void) {
+    uint64_t z = state += 0x9e3779b97f4a7c15u;
+    z = (z ^ z >> 30) * 0xbf58476d1ce4e5b9u;
+    z = (z ^ z >> 27) * 0x94d049bb133111ebu;
+    return z ^ z >> 31;
+}
+
+static uint64_t below(uint64_t bound) { return bits() % bound; }
+
+static int64_t signed_bits(void) {
+    uint64_t drawn = bits();
+    int64_t number;
+    memcpy(&number, &drawn, sizeof number);
+    return number;
+}
+
+/* A number of any size: as many bits as not. */
+static int64_t number(void) {
+    int64_t drawn = signed_bits();
+    return drawn / ((int64_t)1 << below(63));
+}
+
+/* A code of which so many are known. */
+static uint32_t code(uint32_t known) {
+    if (below(40) != 0)
+        return (uint32_t)below(known);
+    return below(2) ? known + (uint32_t)below(3) : (uint32_t)bits();
+}
+
+/* The years -9999 to 9999 have about 378 million million microseconds before 1970 and 253 after. */
+static int64_t instant(void) {
+    const int64_t thousand_million = 1000000000;
+    switch (below(6)) {
+    case 0: return signed_bits();
+    case 1: return (int64_t)below(86400) * 1000000 * (int64_t)below(100000);
+    case 2: return -(int64_t)below(86400) * 1000000 * (int64_t)below(100000);
+    default: return ((int64_t)below(632000000) - 378000000) * thousand_million + (int64_t)below(1000000000);
+    }
+}
+
+/* The bytes between the fields are drawn too. */
+static uppinalo_axis axis(void) {
+    uppinalo_axis drawn;
+    memset(&drawn, (int)below(256), sizeof drawn);
+    drawn.calendar = code(6);
+    drawn.period = code(8);
+    drawn.mode = code(2);
+    drawn.reference = instant();
+    if (below(2))
+        drawn.reference -= drawn.reference % 86400000000;
+    return drawn;
+}
+
+static double double_offset(void) {
+    uint64_t drawn = bits();
+    double x;
+    switch (below(7)) {
+    case 0: drawn |= below(4) == 0 ? 0x7ff0000000000000u : 0; memcpy(&x, &drawn, sizeof x); return x;
+    case 1: return (double)number();
+    case 2: return (double)number() / 128.0;
+    case 3: return (double)((int64_t)below(200000) - 100000);
+    case 4: return ((double)below(1u << 30) - 536870912.0) / 1e4;
+    default: return ((double)below(1u << 20) - 524288.0) * 1e-3 + 1e-9 * (double)below(1000);
+    }
+}
+
+static int64_t whole_offset(void) { return below(3) == 0 ? number() : (int64_t)below(20000) - 10000; }
+
+static uint32_t field(uint32_t least, uint32_t most) {
+    return below(30) == 0 ? (below(2) ? most + 1 : (uint32_t)bits()) : least + (uint32_t)below(most - least + 1);
+}
+
+static uppinalo_fields fields(void) {
+    int64_t year = below(20) == 0 ? number() : (int64_t)below(20020) - 10010;
+    return (uppinalo_fields){year, field(1, 12), field(1, 31), field(0, 23), field(0, 59), field(0, 59), field(0, 999999)};
+}
+
+enum { MOST_BYTES = 300 };
+
+static const char *const NAMES[] = {"", "standard", "gregorian", "proleptic_gregorian", "ISO8601", "julian", "noleap",
+    "no_leap", "365_day", "all_leap", "366_day", "uniform30day", "360_day", "tai", "utc", "none"};
+static const char *const UNITS[] = {"days since 1850-01-01", "hours since 1900-1-1 00:00:0.0", "s since 1970",
+    "calendar months since 1582-09-10", "Calendar  years SINCE -4712-01-01 12:00 UTC", "msecs since 2000-02-29T23:59:59.999999Z",
+    "weeks since 0-1-1", "min since +9999-12-31 23:59 -01", "mon since 1930-01-31 00:30 +01:00", "yrs since 1-1-1 1:1:1.5 gmt"};
+static const char *const PARTS[] = {"days", "since", "calendar", " ", "  ", "-", "+", "1970", "01", "1", "T", ":", ".5", "Z", "UTC", "+0130",
+    "-01:30", "s", "\xff", "0000000"};
+
+#define PICK(list) list[below(sizeof list / sizeof *list)]
+
+/* Copies as much of a text as there is room for. */
+static size_t put(uint8_t *room, size_t at, const char *text) {
+    while (*text != 0 && at < MOST_BYTES)
+        room[at++] = (uint8_t)*text++;
+    return at;
+}
+
+static size_t damaged(uint8_t *room, size_t length) {
+    if (below(2) == 0)
+        return length;
+    if (length > 0 && below(2) == 0)
+        room[below(length)] = (uint8_t)bits();
+    if (below(3) == 0)
+        length = put(room, length, PICK(PARTS));
+    return below(4) == 0 ? (size_t)below(length + 1) : length;
+}
+
+/* A text that follows its grammar most often, or parts of one in any order. Answers its length. */
+static size_t text(uint8_t *room, int is_units) {
+    size_t length = 0;
+    if (below(4) != 0) {
+        const char *good = PICK(UNITS);
+        length = put(room, 0, is_units ? good : strchr(strpbrk(good, "iI"), ' ') + 1);
+    }
+    else
+        for (uint64_t parts = below(40); parts > 0; parts--)
+            length = put(room, length, PICK(PARTS));
+    return damaged(room, length);
+}
+
+static size_t name(uint8_t *room) {
+    size_t length = put(room, 0, PICK(NAMES));
+    return below(10) == 0 ? damaged(room, length) : length;
+}
+
+#endif

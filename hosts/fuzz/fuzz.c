@@ -1,0 +1,337 @@
+/* Hostile use of the C boundary: codes, numbers, texts and lent memory at random, and what every answer must have.
+ *
+ *     fuzz COUNT SEED CALL..
+ *
+ * makes COUNT rounds from SEED. The calls that are named must be there; others that the archive lacks are left out. A round draws the input of one call, makes it twice, and tests that
+ *   - the answers are the same, the number is one of the table, and a refusal has zeros beside its number;
+ *   - what is lent to be read stays, what is lent to be written is written only where the answer says, and nothing beside it;
+ *   - other calls agree: an offset read is written back, an element of a run reads as it does alone, a text is read back.
+ * The first failure ends the run with status 1. */
+#include "lent.h"
+
+#pragma weak uppinalo_read_units
+#pragma weak uppinalo_read_iso
+#pragma weak uppinalo_write_iso
+#pragma weak uppinalo_fields_of
+#pragma weak uppinalo_date_of_day
+#pragma weak uppinalo_day_of_date
+#pragma weak uppinalo_read_whole
+#pragma weak uppinalo_read_double
+#pragma weak uppinalo_write_instant
+#pragma weak uppinalo_write_fields
+#pragma weak uppinalo_read_wholes
+#pragma weak uppinalo_read_doubles
+
+static unsigned long long turn;
+static const char *call = "";
+static size_t row;
+static unsigned long long answered[12][9];
+
+static void require(int holds, const char *what) {
+    if (holds)
+        return;
+    printf("fuzz: uppinalo_%s, round %llu: %s\n", call, turn, what);
+    exit(1);
+}
+
+/* The bytes of an answer in which all padding is zero, so that answers can be compared. */
+#define SAME(a, b) (memcmp(&(a), &(b), sizeof(a)) == 0)
+
+static void count(uint32_t given) {
+    require(given <= 8, "a number that the table does not have");
+    answered[row][given]++;
+}
+
+static lent names, texts, sources, rooms;
+
+static int is_in_range(uint32_t calendar, int64_t of) {
+    return !uppinalo_fields_of || uppinalo_fields_of(calendar, of).number == 0;
+}
+
+/* An answer's bool as the byte that it is. */
+static void require_reading(const uppinalo_reading *answer, uint32_t calendar) {
+    uint8_t exact;
+    memcpy(&exact, (const char *)answer + offsetof(uppinalo_reading, exact), 1);
+    require(exact <= 1, "a bool that is neither 0 nor 1");
+    if (answer->number != 0)
+        require(answer->instant == 0 && exact == 0, "a refused reading with an instant");
+    else
+        require(is_in_range(calendar, answer->instant), "an instant past the range");
+}
+
+static void read_units(void) {
+    uint8_t name_bytes[MOST_BYTES], text_bytes[MOST_BYTES];
+    size_t n = name(name_bytes), m = text(text_bytes, 1);
+    const uint8_t *first = lend(&names, name_bytes, n), *second = lend(&texts, text_bytes, m);
+    uppinalo_axis_answer answer = uppinalo_read_units(first, n, second, m), again = uppinalo_read_units(first, n, second, m);
+    uppinalo_axis of = answer.axis;
+    count(answer.number);
+    require(answer.number == again.number && of.reference == again.axis.reference, "two answers");
+    require(is_kept_after(&names, 0) && is_kept_after(&texts, 0), "a text is changed");
+    require(of.calendar < 6 && of.period < 8 && of.mode < 2, "an axis with an unknown code");
+    require(m <= 128 || answer.number == 1, "a text over 128 bytes is not refused with 1");
+    if (answer.number != 0)
+        require(of.calendar == 0 && of.period == 0 && of.mode == 0 && of.reference == 0, "a refused text with an axis");
+    else
+        require(is_in_range(of.calendar, of.reference), "a reference past the range");
+}
+
+static void read_iso(void) {
+    uint8_t name_bytes[MOST_BYTES], text_bytes[MOST_BYTES];
+    size_t n = name(name_bytes), m = text(text_bytes, 0);
+    const uint8_t *first = lend(&names, name_bytes, n), *second = lend(&texts, text_bytes, m);
+    uppinalo_reading answer = uppinalo_read_iso(first, n, second, m), again = uppinalo_read_iso(first, n, second, m);
+    count(answer.number);
+    require(answer.number == again.number && answer.instant == again.instant, "two answers");
+    require(is_kept_after(&names, 0) && is_kept_after(&texts, 0), "a text is changed");
+    require(m <= 128 || answer.number == 1, "a text over 128 bytes is not refused with 1");
+    require(answer.number == 0 ? answer.exact : !answer.exact && answer.instant == 0, "exact, and only on success");
+}
+
+static void write_iso(void) {
+    static const char *const CODED[] = {"standard", "proleptic_gregorian", "julian", "noleap", "all_leap", "360_day"};
+    uint8_t filled[MOST_BYTES];
+    uint32_t calendar = code(6);
+    int64_t of = instant();
+    size_t n = below(2) ? 26 + (size_t)below(4) : (size_t)below(60);
+    memset(filled, (int)below(256), n);
+    uint8_t *room = lend(&rooms, filled, n);
+    uppinalo_length_answer answer = uppinalo_write_iso(calendar, of, room, n);
+    count(answer.number);
+    require(answer.number == 0 ? answer.length == 27 || answer.length == 28 : answer.length == 0, "another length");
+    require(answer.length <= n && is_kept_after(&rooms, answer.length), "more than the text is written");
+    if (uppinalo_read_iso && answer.number == 0) {
+        const char *known = CODED[calendar];
+        uppinalo_reading back = uppinalo_read_iso((const uint8_t *)known, strlen(known), room, answer.length);
+        require(back.number == 0 && back.instant == of && back.exact, "the text does not read as the instant");
+    }
+}
+
+static void fields_of(void) {
+    uint32_t calendar = code(6);
+    int64_t of = instant();
+    uppinalo_fields_answer answer = uppinalo_fields_of(calendar, of), again = uppinalo_fields_of(calendar, of);
+    uppinalo_fields f = answer.fields;
+    count(answer.number);
+    require(answer.number == again.number && SAME(answer.fields, again.fields), "two answers");
+    require(calendar < 6 || answer.number == 2, "an unknown calendar is not refused with 2");
+    if (answer.number == 0)
+        require(f.year >= -9999 && f.year <= 9999 && f.month - 1 < 12 && f.day - 1 < 31 && f.hour < 24 && f.minute < 60 &&
+                f.second < 60 && f.microsecond < 1000000, "fields that no instant has");
+    else
+        require(SAME(f, ((uppinalo_fields){0})), "a refusal with fields");
+}
+
+static void date_of_day(void) {
+    uint32_t calendar = code(6);
+    int64_t day = below(3) ? (int64_t)below(7400000) - 4400000 : number();
+    uppinalo_date_answer answer = uppinalo_date_of_day(calendar, day);
+    count(answer.number);
+    require(answer.number == 0 || SAME(answer.date, ((uppinalo_date){0})), "a refusal with a date");
+    if (uppinalo_day_of_date && answer.number == 0) {
+        uppinalo_day_answer back = uppinalo_day_of_date(calendar, answer.date);
+        require(back.number == 0 && back.day == day, "the date has another day number");
+    }
+}
+
+static void day_of_date(void) {
+    uint32_t calendar = code(6);
+    uppinalo_fields drawn = fields();
+    uppinalo_date date = {drawn.year, drawn.month, drawn.day};
+    uppinalo_day_answer answer = uppinalo_day_of_date(calendar, date);
+    count(answer.number);
+    require(answer.number == 0 || answer.day == 0, "a refusal with a day");
+    if (uppinalo_date_of_day && answer.number == 0) {
+        uppinalo_date_answer back = uppinalo_date_of_day(calendar, answer.day);
+        require(back.number == 0 && SAME(back.date, date), "the day number has another date");
+    }
+}
+
+static void read_whole(void) {
+    uppinalo_axis on = axis();
+    int64_t offset = whole_offset();
+    uppinalo_reading answer = uppinalo_read_whole(on, offset), again = uppinalo_read_whole(on, offset);
+    count(answer.number);
+    require(answer.number == again.number && answer.instant == again.instant, "two answers");
+    require_reading(&answer, on.calendar);
+    require(answer.number != 0 || answer.exact, "a whole offset that is not exact");
+    if (uppinalo_write_instant && answer.number == 0) {
+        uppinalo_offset_answer back = uppinalo_write_instant(on, answer.instant);
+        require(back.number == 0 && back.offset == offset, "the instant is written as another offset");
+    }
+}
+
+static void read_double(void) {
+    uppinalo_axis on = axis();
+    double offset = double_offset();
+    uppinalo_reading answer = uppinalo_read_double(on, offset), again = uppinalo_read_double(on, offset);
+    count(answer.number);
+    require(answer.number == again.number && answer.instant == again.instant, "two answers");
+    require_reading(&answer, on.calendar);
+    if (uppinalo_read_whole && offset > -9e15 && offset < 9e15 && (double)(int64_t)offset == offset) {
+        uppinalo_reading whole = uppinalo_read_whole(on, (int64_t)offset);
+        require(whole.number == answer.number && whole.instant == answer.instant && whole.exact == answer.exact,
+                "a whole double reads as the whole number does not");
+    }
+}
+
+static void write_instant(void) {
+    uppinalo_axis on = axis();
+    int64_t days = (int64_t)below(2000) - 1000, of = instant();
+    if (below(2) && is_in_range(on.calendar, on.reference))
+        of = on.reference + days * 86400000000 + (int64_t)below(3) - 1;
+    uppinalo_offset_answer answer = uppinalo_write_instant(on, of);
+    count(answer.number);
+    require(answer.number == 0 || answer.offset == 0, "a refusal with an offset");
+    if (uppinalo_read_whole && answer.number == 0) {
+        uppinalo_reading back = uppinalo_read_whole(on, answer.offset);
+        require(back.number == 0 && back.instant == of, "the offset reads as another instant");
+    }
+}
+
+static void write_fields(void) {
+    uppinalo_axis on = axis();
+    uppinalo_fields of = fields();
+    if (below(2))
+        of.microsecond = 0;
+    if (below(2))
+        of.hour = of.minute = of.second = of.microsecond = 0;
+    uppinalo_offset_answer answer = uppinalo_write_fields(on, of);
+    count(answer.number);
+    require(answer.number == 0 || answer.offset == 0, "a refusal with an offset");
+    if (uppinalo_read_whole && uppinalo_fields_of && answer.number == 0) {
+        uppinalo_reading back = uppinalo_read_whole(on, answer.offset);
+        uppinalo_fields_answer shown = uppinalo_fields_of(on.calendar, back.instant);
+        require(back.number == 0 && SAME(shown.fields, of), "the offset reads as other fields");
+    }
+}
+
+enum { MOST_OFFSETS = 200 };
+
+/* What every answer to a run has; where it is refused, the place is one of the run's. */
+static void require_run(uppinalo_run_answer answer, size_t n, size_t m) {
+    require(answer.number != 0 ? answer.length == 0 && answer.rounded == 0 : answer.length == n && answer.place == 0,
+            "the counts of a refusal are zero, or the length is that of the source");
+    require(answer.rounded <= n, "more are rounded than there are");
+    require(n <= m || answer.number != 0, "too little room is not refused");
+    require(answer.place == 0 || answer.place < n, "a place past the source");
+    require(is_kept_after(&sources, 0), "the source is changed");
+    require(is_kept_after(&rooms, 8 * answer.length), "more than the run is written");
+}
+
+static size_t room_for(size_t n) {
+    static uint8_t filled[8 * (MOST_OFFSETS + 16)];
+    size_t m = below(8) == 0 ? (size_t)below(n + 1) : n + (size_t)below(2) * (size_t)below(16);
+    for (size_t i = 0; i < 8 * m; i++)
+        filled[i] = (uint8_t)bits();
+    lend(&rooms, filled, 8 * m);
+    return m;
+}
+
+static size_t length(void) { return (size_t)below(below(2) ? 6 : MOST_OFFSETS); }
+
+/* That an element of a run has the instant, or the refusal, of its offset alone. */
+#define REQUIRE_ALONE(answer, read, on, source, written, n) \
+    do { \
+        size_t last = (answer).number != 0 ? (answer).place + 1 : (n); \
+        for (size_t i = 0; read && i < last && i < (n) && (answer).number != 7; i++) { \
+            uppinalo_reading alone = read(on, (source)[i]); \
+            uint32_t expected = (answer).number != 0 && i + 1 == last ? (answer).number : 0; \
+            require(alone.number == expected, "an offset is refused otherwise alone"); \
+            require((answer).number != 0 || alone.instant == (written)[i], "an offset reads otherwise alone"); \
+        } \
+    } while (0)
+
+static void read_wholes(void) {
+    uppinalo_axis on = axis();
+    int64_t drawn[MOST_OFFSETS];
+    size_t n = length(), m;
+    int is_tame = below(4) != 0;
+    for (size_t i = 0; i < n; i++)
+        drawn[i] = is_tame ? (int64_t)below(2000) - 1000 : whole_offset();
+    const int64_t *source = lend(&sources, drawn, 8 * n);
+    m = room_for(n);
+    uppinalo_run_answer answer = uppinalo_read_wholes(on, source, n, (int64_t *)(void *)rooms.start, m);
+    count(answer.number);
+    require_run(answer, n, m);
+    require(answer.rounded == 0, "a whole offset is rounded");
+    REQUIRE_ALONE(answer, uppinalo_read_whole, on, drawn, (const int64_t *)(const void *)rooms.start, n);
+}
+
+static void read_doubles(void) {
+    uppinalo_axis on = axis();
+    double drawn[MOST_OFFSETS];
+    size_t n = length(), m;
+    int is_tame = below(4) != 0;
+    for (size_t i = 0; i < n; i++)
+        drawn[i] = is_tame ? ((double)below(1u << 20) - 524288.0) / 512.0 : double_offset();
+    const double *source = lend(&sources, drawn, 8 * n);
+    m = room_for(n);
+    uppinalo_run_answer answer = uppinalo_read_doubles(on, source, n, (int64_t *)(void *)rooms.start, m);
+    count(answer.number);
+    require_run(answer, n, m);
+    REQUIRE_ALONE(answer, uppinalo_read_double, on, drawn, (const int64_t *)(const void *)rooms.start, n);
+}
+
+typedef void (*any_call)(void);
+
+/* A call's name, its round, and the call itself, which is null where the archive does not have it. Its place is its row of `answered`. */
+static const struct { const char *name; void (*round)(void); any_call exported; } ROUNDS[] = {
+    {"read_units", read_units, (any_call)uppinalo_read_units},
+    {"read_iso", read_iso, (any_call)uppinalo_read_iso},
+    {"write_iso", write_iso, (any_call)uppinalo_write_iso},
+    {"fields_of", fields_of, (any_call)uppinalo_fields_of},
+    {"date_of_day", date_of_day, (any_call)uppinalo_date_of_day},
+    {"day_of_date", day_of_date, (any_call)uppinalo_day_of_date},
+    {"read_whole", read_whole, (any_call)uppinalo_read_whole},
+    {"read_double", read_double, (any_call)uppinalo_read_double},
+    {"write_instant", write_instant, (any_call)uppinalo_write_instant},
+    {"write_fields", write_fields, (any_call)uppinalo_write_fields},
+    {"read_wholes", read_wholes, (any_call)uppinalo_read_wholes},
+    {"read_doubles", read_doubles, (any_call)uppinalo_read_doubles},
+};
+enum { CALLS = sizeof ROUNDS / sizeof *ROUNDS };
+
+static void print_counts(void) {
+    printf("fuzz: how often each number was answered%12s 0 to 8\n", "");
+    for (size_t i = 0; i < CALLS; i++) {
+        printf("  %-14s", ROUNDS[i].name);
+        for (int given = 0; given < 9 && ROUNDS[i].exported; given++)
+            printf("%9llu", answered[i][given]);
+        printf(ROUNDS[i].exported ? "\n" : "  not exported yet, not tried\n");
+    }
+}
+
+static int is_exported(const char *name) {
+    for (size_t i = 0; i < CALLS; i++)
+        if (strcmp(ROUNDS[i].name, name) == 0)
+            return ROUNDS[i].exported != NULL;
+    return strcmp(name, "listing") == 0;
+}
+
+int main(int argc, char **argv) {
+    if (argc < 4) {
+        fprintf(stderr, "usage: fuzz COUNT SEED CALL..\n");
+        return 2;
+    }
+    for (int i = 3; i < argc; i++) {
+        call = argv[i];
+        require(is_exported(call), "it is listed and not exported");
+    }
+    unsigned long long rounds = strtoull(argv[1], NULL, 10);
+    state = strtoull(argv[2], NULL, 10);
+    lent *const all[] = {&names, &texts, &sources, &rooms};
+    for (int i = 0; i < 4; i++)
+        lent_open(all[i]);
+    while (turn < rounds) {
+        row = (size_t)below(CALLS);
+        call = ROUNDS[row].name;
+        if (!ROUNDS[row].exported)
+            continue;
+        ROUNDS[row].round();
+        turn++;
+    }
+    print_counts();
+    printf("fuzz: %llu rounds from seed %s: ok\n", rounds, argv[2]);
+    return 0;
+}

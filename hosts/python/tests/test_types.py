@@ -1,0 +1,87 @@
+"""What has the wrong type is a TypeError, whatever it is; and threads may share all."""
+
+import decimal
+import fractions
+import threading
+import unittest
+
+from uppinalo import Axis, Calendar, Date, Fields, Mode, Period, Reading, calendar_of, date_of_day, day_of_date
+from uppinalo import fields_of, read_iso, write_iso
+
+from .calls import needs
+
+NO_NUMBERS = [None, "1", b"1", True, False, 1j, [], {}, object(), decimal.Decimal(1), fractions.Fraction(1, 2), int, ...]
+
+
+class WrongTypes(unittest.TestCase):
+    def refused(self, call, *arguments, **named):
+        with self.assertRaises(TypeError, msg=f"{arguments!r} {named!r}"):
+            call(*arguments, **named)
+
+    def test_calendars(self):
+        for calendar in (None, 0, 3, 1.0, True, [], Period.DAY, object()):
+            self.refused(calendar_of, calendar)
+            self.refused(fields_of, 0, calendar)
+            self.refused(write_iso, 0, calendar)
+            self.refused(Axis.of, calendar, Period.DAY, Mode.FIXED, 0)
+
+    def test_texts(self):
+        for text in (None, 0, 1.5, True, [], bytearray(b"1970"), memoryview(b"1970")):
+            self.refused(read_iso, text)
+            self.refused(Axis, text)
+            self.refused(Axis, "days since 1970", calendar=text)
+
+    def test_instants_and_days(self):
+        for number in [*NO_NUMBERS, 1.0, 1.5]:
+            self.refused(fields_of, number, Calendar.NOLEAP)
+            self.refused(date_of_day, number, Calendar.NOLEAP)
+            self.refused(write_iso, number, Calendar.NOLEAP)
+            self.refused(day_of_date, Date(2000, number), Calendar.NOLEAP)
+            self.refused(Axis.of, Calendar.NOLEAP, Period.DAY, Mode.FIXED, number)
+
+    def test_dates(self):
+        for date in (None, (2000, 1, 1), "2000-01-01", Fields(2000), [2000, 1, 1]):
+            self.refused(day_of_date, date, Calendar.NOLEAP)
+
+    def test_parts_of_an_axis(self):
+        self.refused(Axis.of, Calendar.NOLEAP, 4, Mode.FIXED, 0)
+        self.refused(Axis.of, Calendar.NOLEAP, Period.DAY, 0, 0)
+        self.refused(Axis.of, Calendar.NOLEAP, Mode.FIXED, Period.DAY, 0)
+
+    @needs("fields_of")
+    def test_offsets(self):
+        axis = Axis.of(Calendar.NOLEAP, Period.DAY, Mode.FIXED, 0)
+        for offset in NO_NUMBERS:
+            self.refused(axis.read, offset)
+            self.refused(axis.read_run, [offset])
+            self.refused(axis.read_run, [0, offset])
+            self.refused(axis.read_run, [0.5, offset])
+        for run in (None, 1, 1.5, "12", b"12", bytearray(8), object(), memoryview(bytes(8)).cast("c")):
+            self.refused(axis.read_run, run)
+        self.refused(axis.read_run, memoryview(bytes(32)).cast("d", (2, 2)))
+
+    @needs("fields_of")
+    def test_times(self):
+        axis = Axis.of(Calendar.NOLEAP, Period.DAY, Mode.FIXED, 0)
+        for time in [*NO_NUMBERS, 1.0, (2000, 1, 1), Date(2000), Fields("2000"), Fields(2000, 1.0), Fields(2000, True)]:
+            self.refused(axis.write, time)
+        self.refused(axis.write, Reading(0.5, True, Calendar.NOLEAP))
+
+
+class Threads(unittest.TestCase):
+    @needs("read_units", "read_doubles")
+    def test_threads_share_an_axis(self):
+        axis = Axis("hours since 1900-01-01", calendar="julian")
+        offsets = [n / 7 for n in range(2000)]
+        expected = axis.read_run(offsets).instants
+        found = []
+
+        def work():
+            found.extend(axis.read_run(offsets).instants == expected for _ in range(20))
+
+        threads = [threading.Thread(target=work) for _ in range(4)]
+        for thread in threads:
+            thread.start()
+        for thread in threads:
+            thread.join()
+        self.assertEqual(found, [True] * 80)

@@ -1,0 +1,43 @@
+"""The time axes of gridded data: units texts, calendars and offsets to dates, and the reverse.
+
+    >>> from uppinalo import Axis
+    >>> axis = Axis("days since 1850-01-01", calendar="noleap")
+    >>> reading = axis.read(59.5)
+    >>> reading.isoformat(), reading.exact
+    ('1850-03-01T12:00:00.000000Z', True)
+    >>> axis.write(reading)
+    Traceback (most recent call last):
+    ...
+    uppinalo.Refused: refused 6: no whole offset reads as the instant; in calendar mode, the double is not whole: ...
+
+The work is done by a proved library, ``libuppinalo.so``; this package lends it Python's numbers, texts and arrays. Whatever
+the library refuses is the exception ``Refused``, and what has the wrong type a TypeError. It may be used from many threads.
+"""
+
+from ._axis import Axis
+from ._codes import Calendar, Mode, Period
+from ._instants import Date, Fields, Reading, calendar_of, date_of_day, day_of_date, fields_of, read_iso, write_iso
+from ._refused import WORDS, Refused
+from ._runs import Run
+
+__all__ = [
+    "Axis",
+    "Calendar",
+    "Date",
+    "Fields",
+    "Mode",
+    "Period",
+    "Reading",
+    "Refused",
+    "Run",
+    "WORDS",
+    "calendar_of",
+    "date_of_day",
+    "day_of_date",
+    "fields_of",
+    "read_iso",
+    "write_iso",
+]
+
+for _name in ("Axis", "Calendar", "Date", "Fields", "Mode", "Period", "Reading", "Refused", "Run"):
+    globals()[_name].__module__ = __name__

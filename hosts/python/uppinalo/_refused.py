@@ -1,0 +1,40 @@
+"""Why a call gives no result."""
+
+from __future__ import annotations
+
+from typing import Optional
+
+#: The refusals by number, in plain words.
+WORDS = {
+    1: "the text has more than 128 bytes",
+    2: "the calendar is not one of the six",
+    3: "the text does not follow its grammar, or a code names no period or mode",
+    4: "the date or the time of day does not exist in the calendar",
+    5: "the year or the instant lies past -9999 to 9999",
+    6: "no whole offset reads as the instant; in calendar mode, the double is not whole",
+    7: "the lent room is too short",
+    8: "the double is not finite",
+}
+
+
+class Refused(ValueError):
+    """A call that the library refuses.
+
+    ``number`` is the refusal's number and ``words`` says it in plain words. ``place`` is the place, from 0, of the first
+    refused offset of a run, and None where it is not an offset of a run that is refused. ``subject`` is what was asked.
+    """
+
+    def __init__(self, number: int, subject: str = "", place: Optional[int] = None) -> None:
+        super().__init__(number, subject, place)
+        self.number = number
+        self.subject = subject
+        self.place = place
+
+    @property
+    def words(self) -> str:
+        return WORDS.get(self.number, "a refusal that this package has no words for")
+
+    def __str__(self) -> str:
+        about = f": {self.subject}" if self.subject else ""
+        where = "" if self.place is None else f", at place {self.place}"
+        return f"refused {self.number}: {self.words}{about}{where}"

@@ -1,0 +1,91 @@
+#!/usr/bin/env python3
+"""The same axes through cftime, xarray, NumPy, UDUNITS and through us. Prints the tables, and puts them into docs/PEERS.md.
+
+    peers/run       has what this needs, and runs it
+
+Every difference has one of the reasons in agreement.py, or the run fails.
+"""
+import os
+import pathlib
+import subprocess
+import sys
+
+import agreement
+import axes
+import timing
+from others import OTHERS
+
+DOCUMENT = pathlib.Path(__file__).resolve().parent.parent / "docs" / "PEERS.md"
+BEGIN, END = "<!-- peers: begin -->\n", "<!-- peers: end -->\n"
+PACKAGES = ["python3-cftime", "python3-xarray", "python3-pandas", "python3-numpy", "libudunits2-0"]
+
+
+def table(heads, rows):
+    lines = [heads, ["---"] * len(heads), *rows]
+    return "".join(f"| {' | '.join(line)} |\n" for line in lines)
+
+
+def cell(counts):
+    if counts is None:
+        return "u"
+    others = [f"{count} {why}" for why, count in sorted(counts.items()) if why != "agree"]
+    return "; ".join([str(counts["agree"]), *others])
+
+
+def versions():
+    asked = subprocess.run(["dpkg-query", "-W", "-f", "${Package} ${Version}, ", *PACKAGES], capture_output=True, text=True, check=True)
+    return asked.stdout.rstrip(", ")
+
+
+def agreements(cases):
+    rows, used = [], {"u"}
+    for case in cases:
+        alike = {}
+        for calendar in case.calendars:
+            cells = agreement.row(case, calendar, OTHERS)
+            used.update(why for counts in cells if counts for why in counts)
+            alike.setdefault(tuple(map(cell, cells)), []).append(f"`{calendar}`")
+        rows += [[case.what, f"`{case.units}`", ", ".join(calendars), *cells] for cells, calendars in alike.items()]
+    reasons = "".join(f"- **{why}**: {text}\n" for why, text in agreement.REASONS.items() if why in used)
+    heads = ["offsets", "units", "calendar", *(reader.name for reader in OTHERS)]
+    return table(heads, rows) + "\n" + reasons
+
+
+def texts():
+    readers = [reader for reader in OTHERS if reader.name in ("cftime", "xarray", "UDUNITS")]
+    rows = [[f"`{text}`", *agreement.text_row(text, readers)] for text in axes.TEXTS]
+    return table(["units text", "Uppinalo", *(reader.name for reader in readers)], rows)
+
+
+def times(cases, is_stub):
+    counts = {None: 2_000 if is_stub else 1_000_000, "cftime": 10_000, "xarray": 100_000, "NumPy": 1_000_000, "UDUNITS": 1_000_000}
+    chosen = [(0, "standard"), (0, "noleap"), (3, "standard"), (5, "standard"), (16, "proleptic_gregorian")]
+    rows = []
+    for place, calendar in chosen:
+        case = cases[place]
+        best = timing.measure(case, calendar, OTHERS, {**counts, "xarray": 10_000 if calendar == "noleap" else 100_000})
+        figures = ["u" if figure is None else f"{figure:.{1 if figure < 100 else 0}f}" for figure in best]
+        rows.append([case.what, f"`{calendar}`", *figures])
+    return table(["nanoseconds for each offset", "calendar", "Uppinalo", *(reader.name for reader in OTHERS)], rows)
+
+
+def main():
+    is_stub = "target/stub" in os.environ["UPPINALO_LIBRARY"]
+    ours = "**the second program in its place (hosts/stub), whose times mean nothing**" if is_stub else "the archive"
+    cases = axes.cases()
+    text = (
+        f"Uppinalo is {ours}; the others are {versions()}.\n\n"
+        f"How many of {axes.COUNT} offsets show the same date to the microsecond, and of the others how many differ for which reason:\n\n"
+        f"{agreements(cases)}\n"
+        "What each makes of a units text in `standard`, at offset 0:\n\n"
+        f"{texts()}\n"
+        "Time for each offset, the best of five lots in one run and one thread, each answering in its own form:\n\n"
+        f"{times(cases, is_stub)}"
+    )
+    sys.stdout.write(text)
+    before, rest = DOCUMENT.read_text().split(BEGIN)
+    after = rest.split(END)[1]
+    DOCUMENT.write_text(before + BEGIN + text + END + after)
+
+
+main()
