@@ -32,7 +32,7 @@ use Rattle.fixed_axis.proofs.Range.{range, bounds, sized}
 not-offset : (r : Refusal) (n : ℤ) → OffsetAnswer.Refused r ≡ OffsetAnswer.Is n → ⊥
 not-offset r n q = let k : _≡_ {A = ℕ} 0 1 = cc in omega arith
 
--- q of k / P periods, with nothing left over
+-- k microseconds that are whole periods
 whole-quotient : (k P : ℕ) → eqb (k % P) 0 ≡ true → k / P * P ≡ k
 whole-quotient k P h = omega (arith, div-add-mod' k P, eqb-true (k % P) 0 h)
 

@@ -21,14 +21,14 @@ use Rattle.double.specs.Reading.{Bounds}
 use Rattle.double.specs.Reading.{inRange as between}
 use Rattle.fixed_axis.specs.Closed.{firstInstant, lastInstant, reachOf}
 
--- a day is at most h where the instant is at most its last microsecond
+-- the day of an instant is at most h where the instant is at most the last microsecond of day h
 day-test : (n h : ℕ) → leb (n / 86400000000) h ≡ leb n (h * 86400000000 + 86399999999)
 day-test n h =
     test-is _ _
     (λ e. le-leb n (h * 86400000000 + 86399999999) (omega (arith, leb-true (n / 86400000000) h e)))
     (λ e. lt-leb n (h * 86400000000 + 86399999999) (omega (arith, leb-false (n / 86400000000) h e)))
 
--- the two halves of the range of days, for the calendars whose last day is h and whose first is -(l + 1)
+-- instants from 1970 on, by the number of the last day, and those before it, by that of the first
 after : (c : Calendar) (n : ℕ) → inRange c (pos n) ≡ between (lower (firstInstant c)) (lower (lastInstant c)) (pos n)
 unfolding dayOf
 after Standard n = Theorems.range Standard (pos (n / 86400000000)) ∙ day-test n 2932896

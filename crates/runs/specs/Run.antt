@@ -7,7 +7,6 @@ use lib.Dec.{ltb}
 use lib.IntN.{ℤ}
 use lib.ListN.{length, drop}
 use Rattle.refusal.specs.Number.{numberOf as refusalNumber}
-use Rattle.refusal.specs.declared.Refusal.{Refusal}
 use Rattle.refusal.specs.declared.Refusal.the-variants.{OutOfRange, NoRoom}
 use Rattle.double.specs.Reading.{instantOf}
 use Rattle.double.specs.declared.Reading.{Reading}

@@ -2,20 +2,19 @@
 ghost use mathlib.Core.Path.{_≡_};
 ghost use Prim.Native.Nat.{_≤_};
 ghost use lib.ListN.{length};
-ghost use Rattle.fixed_axis.specs.Fixed.{readDouble, readWhole};
+ghost use Rattle.axis.specs.Axis.{readDoubleOn, readWholeOn};
 ghost use Rattle.runs.specs.Run.{checked, rounded, overlaid};
 use crate::Check;
-use calendar::Calendar;
+use axis_record::Axis;
 use double::Reading;
-use period::Period;
 
 // The first refused offset.
-pub fn check_doubles(c: Calendar, p: Period, reference: i64, source: &[f64]) -> Check
-    ensures { λ r. ⌜ r ≡ checked (readDouble c p reference) (now (source .entry)) ⌝ }
+pub fn check_doubles(axis: Axis, source: &[f64]) -> Check
+    ensures { λ r. ⌜ r ≡ checked (readDoubleOn axis) (now (source .entry)) ⌝ }
 {
     let mut i: usize = 0;
     while i < source.len() {
-        let one = fixed_axis::read_double(c, p, reference, source[i]);
+        let one = axis::read_double(axis, source[i]);
         match one {
             Reading::Refused(refusal) => {
                 return Check::Refused { refusal, place: i };
@@ -29,21 +28,15 @@ pub fn check_doubles(c: Calendar, p: Period, reference: i64, source: &[f64]) -> 
 }
 
 // The instants, each at its own offset's place, and how many were rounded.
-pub fn write_doubles(
-    c: Calendar,
-    p: Period,
-    reference: i64,
-    source: &[f64],
-    destination: &mut [i64],
-) -> usize
+pub fn write_doubles(axis: Axis, source: &[f64], destination: &mut [i64]) -> usize
     requires { ⌜ length (now source) ≤ length (now destination) ⌝ }
-    ensures counted { λ n. ⌜ n ≡ rounded (readDouble c p reference) (now (source .entry)) ⌝ }
-    ensures written { λ _. ⌜ now (destination .exit) ≡ overlaid (readDouble c p reference) (now (source .entry)) (now (destination .entry)) ⌝ }
+    ensures counted { λ n. ⌜ n ≡ rounded (readDoubleOn axis) (now (source .entry)) ⌝ }
+    ensures written { λ _. ⌜ now (destination .exit) ≡ overlaid (readDoubleOn axis) (now (source .entry)) (now (destination .entry)) ⌝ }
 {
     let mut count: usize = 0;
     let mut i: usize = 0;
     while i < source.len() {
-        let one = fixed_axis::read_double(c, p, reference, source[i]);
+        let one = axis::read_double(axis, source[i]);
         destination[i] = crate::instant(one);
         count += crate::mark(one);
         i += 1;
@@ -52,12 +45,12 @@ pub fn write_doubles(
 }
 
 // The first refused offset.
-pub fn check_wholes(c: Calendar, p: Period, reference: i64, source: &[i64]) -> Check
-    ensures { λ r. ⌜ r ≡ checked (readWhole c p reference) (now (source .entry)) ⌝ }
+pub fn check_wholes(axis: Axis, source: &[i64]) -> Check
+    ensures { λ r. ⌜ r ≡ checked (readWholeOn axis) (now (source .entry)) ⌝ }
 {
     let mut i: usize = 0;
     while i < source.len() {
-        let one = fixed_axis::read_whole(c, p, reference, source[i]);
+        let one = axis::read_whole(axis, source[i]);
         match one {
             Reading::Refused(refusal) => {
                 return Check::Refused { refusal, place: i };
@@ -71,21 +64,15 @@ pub fn check_wholes(c: Calendar, p: Period, reference: i64, source: &[i64]) -> C
 }
 
 // The instants, each at its own offset's place, and how many were rounded.
-pub fn write_wholes(
-    c: Calendar,
-    p: Period,
-    reference: i64,
-    source: &[i64],
-    destination: &mut [i64],
-) -> usize
+pub fn write_wholes(axis: Axis, source: &[i64], destination: &mut [i64]) -> usize
     requires { ⌜ length (now source) ≤ length (now destination) ⌝ }
-    ensures counted { λ n. ⌜ n ≡ rounded (readWhole c p reference) (now (source .entry)) ⌝ }
-    ensures written { λ _. ⌜ now (destination .exit) ≡ overlaid (readWhole c p reference) (now (source .entry)) (now (destination .entry)) ⌝ }
+    ensures counted { λ n. ⌜ n ≡ rounded (readWholeOn axis) (now (source .entry)) ⌝ }
+    ensures written { λ _. ⌜ now (destination .exit) ≡ overlaid (readWholeOn axis) (now (source .entry)) (now (destination .entry)) ⌝ }
 {
     let mut count: usize = 0;
     let mut i: usize = 0;
     while i < source.len() {
-        let one = fixed_axis::read_whole(c, p, reference, source[i]);
+        let one = axis::read_whole(axis, source[i]);
         destination[i] = crate::instant(one);
         count += crate::mark(one);
         i += 1;

@@ -3,11 +3,10 @@ ghost use mathlib.Core.Path.{_≡_};
 ghost use mathlib.Core.Bool.{cond};
 ghost use Rattle.instant.specs.Instant.{inRange};
 ghost use Rattle.double.specs.Reading.{instantOf};
-ghost use Rattle.fixed_axis.specs.Fixed.{readDouble, readWhole};
+ghost use Rattle.axis.specs.Axis.{readDoubleOn, readWholeOn};
 ghost use Rattle.runs.specs.Run.{markOf, runCheck, runAnswer, runWritten};
-use calendar::Calendar;
+use axis_record::Axis;
 use double::Reading;
-use period::Period;
 use refusal::Refusal;
 
 pub mod each;
@@ -54,17 +53,18 @@ fn mark(r: Reading) -> usize
 }
 
 // What a run of doubles comes to: OutOfRange for the reference, then NoRoom, then its first refused offset.
-fn check_doubles(c: Calendar, p: Period, reference: i64, source: &[f64], room: usize) -> Check
-    ensures { λ r. ⌜ r ≡ runCheck (readDouble c p reference) (inRange c reference) (now (source .entry)) room ⌝ }
+fn check_doubles(axis: Axis, source: &[f64], room: usize) -> Check
+    ensures { λ r. ⌜ r ≡ runCheck (readDoubleOn axis) (inRange (axis .calendar) (axis .reference)) (now (source .entry)) room ⌝ }
 {
-    if fixed_axis::in_range(c, signed::biased(reference)) {
+    let c = axis.calendar;
+    if fixed_axis::in_range(c, signed::biased(axis.reference)) {
         if room < source.len() {
             return Check::Refused {
                 refusal: Refusal::NoRoom,
                 place: 0,
             };
         }
-        return each::check_doubles(c, p, reference, source);
+        return each::check_doubles(axis, source);
     }
     return Check::Refused {
         refusal: Refusal::OutOfRange,
@@ -73,17 +73,11 @@ fn check_doubles(c: Calendar, p: Period, reference: i64, source: &[f64], room: u
 }
 
 // A run of doubles.
-pub fn read_doubles(
-    c: Calendar,
-    p: Period,
-    reference: i64,
-    source: &[f64],
-    destination: &mut [i64],
-) -> RunAnswer
-    ensures answered { λ r. ⌜ r ≡ runAnswer (readDouble c p reference) (inRange c reference) (now (source .entry)) (now (destination .entry)) ⌝ }
-    ensures written { λ _. ⌜ now (destination .exit) ≡ runWritten (readDouble c p reference) (inRange c reference) (now (source .entry)) (now (destination .entry)) ⌝ }
+pub fn read_doubles(axis: Axis, source: &[f64], destination: &mut [i64]) -> RunAnswer
+    ensures answered { λ r. ⌜ r ≡ runAnswer (readDoubleOn axis) (inRange (axis .calendar) (axis .reference)) (now (source .entry)) (now (destination .entry)) ⌝ }
+    ensures written { λ _. ⌜ now (destination .exit) ≡ runWritten (readDoubleOn axis) (inRange (axis .calendar) (axis .reference)) (now (source .entry)) (now (destination .entry)) ⌝ }
 {
-    let checked = check_doubles(c, p, reference, source, destination.len());
+    let checked = check_doubles(axis, source, destination.len());
     match checked {
         Check::Refused { refusal, place } => RunAnswer {
             number: refusal::number(refusal),
@@ -92,7 +86,7 @@ pub fn read_doubles(
             rounded: 0,
         },
         Check::AllRead => {
-            let rounded = each::write_doubles(c, p, reference, source, destination);
+            let rounded = each::write_doubles(axis, source, destination);
             RunAnswer {
                 number: 0,
                 place: 0,
@@ -104,17 +98,18 @@ pub fn read_doubles(
 }
 
 // What a run of wholes comes to: OutOfRange for the reference, then NoRoom, then its first refused offset.
-fn check_wholes(c: Calendar, p: Period, reference: i64, source: &[i64], room: usize) -> Check
-    ensures { λ r. ⌜ r ≡ runCheck (readWhole c p reference) (inRange c reference) (now (source .entry)) room ⌝ }
+fn check_wholes(axis: Axis, source: &[i64], room: usize) -> Check
+    ensures { λ r. ⌜ r ≡ runCheck (readWholeOn axis) (inRange (axis .calendar) (axis .reference)) (now (source .entry)) room ⌝ }
 {
-    if fixed_axis::in_range(c, signed::biased(reference)) {
+    let c = axis.calendar;
+    if fixed_axis::in_range(c, signed::biased(axis.reference)) {
         if room < source.len() {
             return Check::Refused {
                 refusal: Refusal::NoRoom,
                 place: 0,
             };
         }
-        return each::check_wholes(c, p, reference, source);
+        return each::check_wholes(axis, source);
     }
     return Check::Refused {
         refusal: Refusal::OutOfRange,
@@ -123,17 +118,11 @@ fn check_wholes(c: Calendar, p: Period, reference: i64, source: &[i64], room: us
 }
 
 // A run of wholes.
-pub fn read_wholes(
-    c: Calendar,
-    p: Period,
-    reference: i64,
-    source: &[i64],
-    destination: &mut [i64],
-) -> RunAnswer
-    ensures answered { λ r. ⌜ r ≡ runAnswer (readWhole c p reference) (inRange c reference) (now (source .entry)) (now (destination .entry)) ⌝ }
-    ensures written { λ _. ⌜ now (destination .exit) ≡ runWritten (readWhole c p reference) (inRange c reference) (now (source .entry)) (now (destination .entry)) ⌝ }
+pub fn read_wholes(axis: Axis, source: &[i64], destination: &mut [i64]) -> RunAnswer
+    ensures answered { λ r. ⌜ r ≡ runAnswer (readWholeOn axis) (inRange (axis .calendar) (axis .reference)) (now (source .entry)) (now (destination .entry)) ⌝ }
+    ensures written { λ _. ⌜ now (destination .exit) ≡ runWritten (readWholeOn axis) (inRange (axis .calendar) (axis .reference)) (now (source .entry)) (now (destination .entry)) ⌝ }
 {
-    let checked = check_wholes(c, p, reference, source, destination.len());
+    let checked = check_wholes(axis, source, destination.len());
     match checked {
         Check::Refused { refusal, place } => RunAnswer {
             number: refusal::number(refusal),
@@ -142,7 +131,7 @@ pub fn read_wholes(
             rounded: 0,
         },
         Check::AllRead => {
-            let rounded = each::write_wholes(c, p, reference, source, destination);
+            let rounded = each::write_wholes(axis, source, destination);
             RunAnswer {
                 number: 0,
                 place: 0,

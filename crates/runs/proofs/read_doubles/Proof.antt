@@ -1,12 +1,9 @@
 -- `runs::read_doubles` meets its contract: the answer and the destination by what the run comes to.
 use mathlib.Core.Path.{_≡_, sym, ap, _∙_}
 use Prim.Native.Nat.{ℕ}
-use lib.IntN.{ℤ}
 use lib.ListN.{length}
-use mir.Syntax.{w64}
-use mir.ValLaws.{toZ-ofZ}
 use Rattle.instant.specs.Instant.{inRange}
-use Rattle.fixed_axis.specs.Fixed.{readDouble}
+use Rattle.axis.specs.Axis.{readDoubleOn}
 use Rattle.runs.specs.declared.Check.{Check}
 use Rattle.runs.specs.Run.{rounded, overlaid, runCheck, answerOf, chosen}
 use Rattle.runs.proofs.Passes.{has-room}
@@ -18,11 +15,8 @@ module _ (c : tie.After-check-doubles) where
   abbrev start : tie.Start
   start = c .before .before
 
-  abbrev same : ℤ → Check
-  same z = runCheck (readDouble (start .args .c) (start .args .p) z) (inRange (start .args .c) z) (start .args .source .now) (length (start .args .destination .now))
-
-  is-checked : c .check-doubles .result ≡ same (start .args .reference)
-  is-checked = c .check-doubles .ensures ∙ ap same (toZ-ofZ w64 (start .args .reference) (start .fits .reference))
+  is-checked : c .check-doubles .result ≡ runCheck (readDoubleOn (start .args .axis)) (inRange (start .args .axis .calendar) (start .args .axis .reference)) (start .args .source .now) (length (start .args .destination .now))
+  is-checked = c .check-doubles .ensures
 
 check-doubles-requires : tie.Need-check-doubles-requires
 check-doubles-requires c κs = search needs
@@ -40,7 +34,7 @@ write-doubles-requires : tie.Need-write-doubles-requires
 write-doubles-requires c κs =
     let m = c .before .before .before in
     let a = start m in
-    has-room (readDouble (a .args .c) (a .args .p) (a .args .reference)) (a .args .source .now) (length (a .args .destination .now)) (inRange (a .args .c) (a .args .reference)) (sym (is-checked m) ∙ c .before .enum-told .given .1)
+    has-room (readDoubleOn (a .args .axis)) (a .args .source .now) (length (a .args .destination .now)) (inRange (a .args .axis .calendar) (a .args .axis .reference)) (sym (is-checked m) ∙ c .before .enum-told .given .1)
 
 returns : tie.Need-returns
 returns c =
@@ -48,8 +42,8 @@ returns c =
     let a = start m in
     let e = sym (c .before .before .checked .given .1) ∙ is-checked m in
     let n = length (a .args .source .now) in
-    let r = rounded (readDouble (a .args .c) (a .args .p) (a .args .reference)) (a .args .source .now) in
-    (ap (λ (q : ℕ). record { number = q; place = c .before .before .checked .given .0 .1 .0; length = 0; rounded = 0 }) (c .number .ensures) ∙ ap (λ (s : Check). answerOf s n r) e, ap (λ (s : Check). chosen s (overlaid (readDouble (a .args .c) (a .args .p) (a .args .reference)) (a .args .source .now) (a .args .destination .now)) (a .args .destination .now)) e)
+    let r = rounded (readDoubleOn (a .args .axis)) (a .args .source .now) in
+    (ap (λ (q : ℕ). record { number = q; place = c .before .before .checked .given .0 .1 .0; length = 0; rounded = 0 }) (c .number .ensures) ∙ ap (λ (s : Check). answerOf s n r) e, ap (λ (s : Check). chosen s (overlaid (readDoubleOn (a .args .axis)) (a .args .source .now) (a .args .destination .now)) (a .args .destination .now)) e)
 
 same-length : tie.Need-same-length
 same-length c = search needs
@@ -61,10 +55,9 @@ returns-2 c =
     let e = sym (c .before .before .before .enum-told .given .1) ∙ is-checked m in
     let w = c .before .write-doubles .ensures in
     let n = length (a .args .source .now) in
-    let back = toZ-ofZ w64 (a .args .reference) (a .fits .reference) in
-    let r = w .0 ∙ ap (λ (z : ℤ). rounded (readDouble (a .args .c) (a .args .p) z) (a .args .source .now)) back in
-    let o = w .1 ∙ ap (λ (z : ℤ). overlaid (readDouble (a .args .c) (a .args .p) z) (a .args .source .now) (a .args .destination .now)) back in
-    (ap (λ (q : ℕ). answerOf Check.AllRead n q) r ∙ ap (λ (s : Check). answerOf s n (rounded (readDouble (a .args .c) (a .args .p) (a .args .reference)) (a .args .source .now))) e, o ∙ ap (λ (s : Check). chosen s (overlaid (readDouble (a .args .c) (a .args .p) (a .args .reference)) (a .args .source .now) (a .args .destination .now)) (a .args .destination .now)) e)
+    let r = w .0 in
+    let o = w .1 in
+    (ap (λ (q : ℕ). answerOf Check.AllRead n q) r ∙ ap (λ (s : Check). answerOf s n (rounded (readDoubleOn (a .args .axis)) (a .args .source .now))) e, o ∙ ap (λ (s : Check). chosen s (overlaid (readDoubleOn (a .args .axis)) (a .args .source .now) (a .args .destination .now)) (a .args .destination .now)) e)
 
 pub read-doubles-spec : {M : Type 1} → statement M
 read-doubles-spec =

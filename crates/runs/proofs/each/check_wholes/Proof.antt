@@ -1,32 +1,26 @@
 -- `runs::each::check_wholes` meets its contract: proofs/Passes.antt, with the axis's reading.
-use mathlib.Core.Path.{_≡_, sym, ap, _∙_}
+use mathlib.Core.Path.{sym, ap, _∙_}
 use Prim.Native.Nat.{_-_}
-use native.Mathlib.Omega.{arith}
 use lib.IntN.{ℤ, pos}
 use lib.ListN.{length, getD}
 use mir.Syntax.{w64}
 use mir.Val.{toZ, ofZ}
 use mir.ValLaws.{toZ-ofZ}
 use Rattle.double.specs.declared.Reading.{Reading}
-use Rattle.fixed_axis.specs.Fixed.{readWhole}
-use Rattle.runs.specs.Run.{checked}
+use Rattle.axis.specs.Axis.{readWholeOn}
 use Rattle.runs.proofs.Passes.{Checking, checking-starts, checking-on, checking-stops, checking-ends}
 use borrow.Author.Needs.{needs}
 use Rattle.runs.proofs.each.check_wholes.Statement.{statement}
 use Rattle.runs.proofs.each.check_wholes.Tie as tie
 
 abbrev Inv-loop : tie.InvT-loop
-Inv-loop c p reference source i₀ i = Checking (readWhole c p (toZ w64 reference)) source i
+Inv-loop axis source i₀ i = Checking (readWholeOn axis) source i
 
 abbrev μ-loop : tie.MeasureT-loop
-μ-loop c p reference source i₀ i = length source - i
+μ-loop axis source i₀ i = length source - i
 
 abbrev read : tie.Start Inv-loop μ-loop → ℤ → Reading
-read a = readWhole (a .args .c) (a .args .p) (toZ w64 (ofZ w64 (a .args .reference)))
-
--- the reference as it came
-same : (a : tie.Start Inv-loop μ-loop) → checked (read a) (a .args .source .now) ≡ checked (readWhole (a .args .c) (a .args .p) (a .args .reference)) (a .args .source .now)
-same a = ap (λ (z : ℤ). checked (readWhole (a .args .c) (a .args .p) z) (a .args .source .now)) (toZ-ofZ w64 (a .args .reference) (a .fits .reference))
+read a = readWholeOn (a .args .axis)
 
 loop-holds : tie.Need-loop-holds Inv-loop μ-loop
 loop-holds c = checking-starts _ _
@@ -48,7 +42,7 @@ returns c =
     let l = c .before .before .before .before .before .before in
     let a = l .before in
     let e = c .before .before .before .read-whole .ensures ∙ ap (read a) (toZ-ofZ w64 (getD (a .args .source .now) (l .loop .i) (pos 0)) (record { sfits = c .before .before .before .before .read-whole-arg .given })) in
-    checking-stops (read a) (a .args .source .now) (l .loop .i) (pos 0) (c .before .one .given .0 .0) (l .loop .inv) (c .before .before .before .before .before .loop-test .taken) (sym e ∙ c .before .one .given .1) ∙ same a
+    checking-stops (read a) (a .args .source .now) (l .loop .i) (pos 0) (c .before .one .given .0 .0) (l .loop .inv) (c .before .before .before .before .before .loop-test .taken) (sym e ∙ c .before .one .given .1)
 
 enum-told : tie.Need-enum-told Inv-loop μ-loop
 enum-told c = search needs
@@ -70,7 +64,7 @@ returns-2 : tie.Need-returns-2 Inv-loop μ-loop
 returns-2 c =
     let l = c .before in
     let a = l .before in
-    checking-ends (read a) (a .args .source .now) (l .loop .i) (l .loop .inv) (c .loop-test .left) ∙ same a
+    checking-ends (read a) (a .args .source .now) (l .loop .i) (l .loop .inv) (c .loop-test .left)
 
 pub check-wholes-spec : {M : Type 1} → statement M
 check-wholes-spec =

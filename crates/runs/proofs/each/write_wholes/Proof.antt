@@ -1,7 +1,6 @@
 -- `runs::each::write_wholes` meets its contract: proofs/Passes.antt, with the axis's reading.
-use mathlib.Core.Path.{_≡_, sym, ap, _∙_}
-use mathlib.Core.List.{List}
-use Prim.Native.Nat.{ℕ, _-_}
+use mathlib.Core.Path.{ap, _∙_}
+use Prim.Native.Nat.{_-_}
 use native.Mathlib.Omega.{arith}
 use lib.IntN.{ℤ, pos}
 use lib.ListN.{length, getD}
@@ -10,21 +9,21 @@ use mir.Val.{toZ, ofZ}
 use mir.ValLaws.{toZ-ofZ}
 use Rattle.double.specs.Reading.{instantOf}
 use Rattle.double.specs.declared.Reading.{Reading}
-use Rattle.fixed_axis.specs.Fixed.{readWhole}
-use Rattle.runs.specs.Run.{markOf, rounded, overlaid}
+use Rattle.axis.specs.Axis.{readWholeOn}
+use Rattle.runs.specs.Run.{markOf}
 use Rattle.runs.proofs.Passes.{mark-le, Writing, writing-starts, writing-on, writing-ends}
 use borrow.Author.Needs.{needs}
 use Rattle.runs.proofs.each.write_wholes.Statement.{statement}
 use Rattle.runs.proofs.each.write_wholes.Tie as tie
 
 abbrev Inv-loop : tie.InvT-loop
-Inv-loop c p reference source destination₀ count₀ i₀ destination count i = Writing (readWhole c p (toZ w64 reference)) source destination₀ destination count i
+Inv-loop axis source destination₀ count₀ i₀ destination count i = Writing (readWholeOn axis) source destination₀ destination count i
 
 abbrev μ-loop : tie.MeasureT-loop
-μ-loop c p reference source destination₀ count₀ i₀ destination count i = length source - i
+μ-loop axis source destination₀ count₀ i₀ destination count i = length source - i
 
 abbrev read : tie.Start Inv-loop μ-loop → ℤ → Reading
-read a = readWhole (a .args .c) (a .args .p) (toZ w64 (ofZ w64 (a .args .reference)))
+read a = readWholeOn (a .args .axis)
 
 loop-holds : tie.Need-loop-holds Inv-loop μ-loop
 loop-holds c = writing-starts _ _ _ (c .pre)
@@ -41,8 +40,8 @@ read-whole-requires c κs = search needs
 instant-requires : tie.Need-instant-requires Inv-loop μ-loop
 instant-requires c κs = search needs
 
-mul-t9 : tie.Need-mul-t9 Inv-loop μ-loop
-mul-t9 c = search needs
+mul-t7 : tie.Need-mul-t7 Inv-loop μ-loop
+mul-t7 c = search needs
 
 slice-set-from-destination : tie.Need-slice-set-from-destination Inv-loop μ-loop
 slice-set-from-destination c = search needs
@@ -74,9 +73,7 @@ returns : tie.Need-returns Inv-loop μ-loop
 returns c =
     let l = c .before in
     let a = l .before in
-    let w = writing-ends (read a) (a .args .source .now) (a .args .destination .now) (l .loop .destination) (l .loop .count) (l .loop .i) (l .loop .inv) (c .loop-test .left) in
-    let s = toZ-ofZ w64 (a .args .reference) (a .fits .reference) in
-    (w .0 ∙ ap (λ (z : ℤ). rounded (readWhole (a .args .c) (a .args .p) z) (a .args .source .now)) s, w .1 ∙ ap (λ (z : ℤ). overlaid (readWhole (a .args .c) (a .args .p) z) (a .args .source .now) (a .args .destination .now)) s)
+    writing-ends (read a) (a .args .source .now) (a .args .destination .now) (l .loop .destination) (l .loop .count) (l .loop .i) (l .loop .inv) (c .loop-test .left)
 
 pub write-wholes-spec : {M : Type 1} → statement M
 write-wholes-spec =
@@ -89,7 +86,7 @@ write-wholes-spec =
     shared-slice-copy-out-read-whole
     read-whole-requires
     instant-requires
-    mul-t9
+    mul-t7
     slice-set-from-destination
     mark-requires
     add-count
