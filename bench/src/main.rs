@@ -1,10 +1,10 @@
 //! Prints, for each call, the nanoseconds of the proved library and of plain Rust, and their ratio.
 //! The words after the command choose what is measured; none choose all.
 
-use bench::measure::{calendars, offsets, runs, texts};
+use bench::measure::{calendars, listing, offsets, runs, texts};
 use bench::timing;
 
-const MEASUREMENTS: [(&str, fn()); 9] = [
+const MEASUREMENTS: [(&str, fn()); 11] = [
     ("dates", calendars::dates),
     ("days", calendars::days),
     ("fields", calendars::fields),
@@ -14,6 +14,8 @@ const MEASUREMENTS: [(&str, fn()); 9] = [
     ("iso", texts::iso),
     ("units", texts::units),
     ("writing", offsets::writing),
+    ("listing", listing::lines),
+    ("growth", runs::growth),
 ];
 
 fn main() {

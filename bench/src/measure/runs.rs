@@ -60,3 +60,22 @@ pub fn wholes() {
     run("run of whole offsets, calendar months", axis(0, 6, 1));
     run("run of whole offsets, calendar years", axis(2, 7, 1));
 }
+
+/// How the cost of an element changes with the run's length.
+pub fn growth() {
+    if !is_exported("read_doubles") {
+        return print_missing("run of doubles, by its length");
+    }
+    let mut random = Random::seeded(6);
+    let axis = axis(1, 4, 0);
+    for length in [1, 10, 100, 1_000, 10_000, 100_000, 1_000_000] {
+        let wholes = (0..length).map(|_| random.between(-36_500, 36_500)).collect();
+        let source = with_fractions(&mut random, wholes);
+        let (mut room, mut other) = (vec![0; length], vec![0; length]);
+        let turns = (100_000 / length).max(1);
+        let label = format!("run of {length} doubles, days, fractions");
+        let ours = || (0..turns).fold(0, |_, _| sum(raw::uppinalo_read_doubles, axis, &source, &mut room));
+        let plain = || (0..turns).fold(0, |_, _| sum(plain::runs::read_doubles, axis, &source, &mut other));
+        compare(&label, length * turns, ours, plain);
+    }
+}

@@ -11,7 +11,8 @@ fn put(text: &mut [u8], mut number: u32) {
     }
 }
 
-fn text_of(fields: Fields) -> [u8; 27] {
+/// The text of fields, without its sign.
+pub fn text_of(fields: Fields) -> [u8; 27] {
     let mut text = *b"0000-00-00T00:00:00.000000Z";
     put(&mut text[0..4], fields.year.unsigned_abs() as u32);
     put(&mut text[5..7], fields.month);

@@ -7,6 +7,7 @@ pub mod clock;
 pub mod days;
 pub mod doubles;
 pub mod iso;
+pub mod listing;
 pub mod period;
 pub mod runs;
 pub mod scanner;

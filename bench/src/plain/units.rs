@@ -120,7 +120,8 @@ fn units(text: &[u8]) -> Option<(u32, u32, Written)> {
     Some((mode, period, date(&mut text)?))
 }
 
-fn read(name: &[u8], text: &[u8]) -> Result<Axis, u32> {
+/// The axis of a units text, or the number of the refusal.
+pub fn read(name: &[u8], text: &[u8]) -> Result<Axis, u32> {
     if text.len() > 128 {
         return Err(1);
     }
