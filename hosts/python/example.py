@@ -1,9 +1,11 @@
-from uppinalo import Axis, Fields, Refused
+from uppinalo import Axis, Fields, Refused, write_iso
 
 axis = Axis("days since 1850-01-01", calendar="noleap")
-for offset in [59.5, 0.1]:
-    reading = axis.read(offset)
-    print(f"{offset}: {reading.isoformat()}{'' if reading.exact else ' rounded'}")
+offsets = [59.5, 0.1]
+run = axis.read_run(offsets)
+for offset, instant in zip(offsets, run.instants):
+    print(f"{offset}: {write_iso(instant, axis.calendar)}")
+print(f"rounded: {run.rounded}")
 print(f"1850-03-01: {axis.write(Fields(1850, 3, 1))}")
 try:
     axis.write(Fields(1850, 3, 1, hour=12))

@@ -2,11 +2,13 @@ use uppinalo::{Axis, Fields};
 
 fn main() -> Result<(), Box<dyn std::error::Error>> {
     let axis = Axis::of_units("noleap", "days since 1850-01-01")?;
-    for offset in [59.5, 0.1] {
-        let reading = axis.read(offset)?;
-        let mark = if reading.exact { "" } else { " rounded" };
-        println!("{offset}: {}{mark}", axis.calendar.iso_text(reading.instant)?);
+    let offsets = [59.5, 0.1];
+    let mut instants = [0; 2];
+    let run = axis.read_doubles(&offsets, &mut instants)?;
+    for (offset, instant) in offsets.iter().zip(instants) {
+        println!("{offset}: {}", axis.calendar.iso_text(instant)?);
     }
+    println!("rounded: {}", run.rounded);
     let fields = Fields { year: 1850, month: 3, day: 1, ..Default::default() };
     println!("1850-03-01: {}", axis.write_fields(fields)?);
     if let Err(refusal) = axis.write_fields(Fields { hour: 12, ..fields }) {
