@@ -10,7 +10,7 @@ use Rattle.calendar.specs.declared.DayAnswer.{DayAnswer}
 use Rattle.instant.specs.Instant.{fieldsAnswer}
 use Rattle.instant.specs.declared.Fields.{Fields}
 use Rattle.instant.specs.declared.FieldsAnswer.{FieldsAnswer}
-use Rattle.uppinalo.specs.declared.codes.CodedCalendar.{CodedCalendar}
+use Rattle.codes.specs.declared.CodedCalendar.{CodedCalendar}
 use Rattle.uppinalo.specs.declared.days.UppinaloDateAnswer.{UppinaloDateAnswer}
 use Rattle.uppinalo.specs.declared.days.UppinaloDayAnswer.{UppinaloDayAnswer}
 use Rattle.uppinalo.specs.declared.days.UppinaloFieldsAnswer.{UppinaloFieldsAnswer}

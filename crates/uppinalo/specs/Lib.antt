@@ -1,4 +1,3 @@
-pub mod Codes
 pub mod Days
 pub mod Texts
 pub mod Offsets

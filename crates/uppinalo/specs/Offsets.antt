@@ -6,7 +6,7 @@ use Rattle.refusal.specs.declared.Refusal.{Refusal}
 use Rattle.double.specs.declared.Reading.{Reading}
 use Rattle.fixed_axis.specs.declared.OffsetAnswer.{OffsetAnswer}
 use Rattle.axis_record.specs.declared.Axis.{Axis}
-use Rattle.uppinalo.specs.declared.codes.CodedAxis.{CodedAxis}
+use Rattle.codes.specs.declared.CodedAxis.{CodedAxis}
 use Rattle.uppinalo.specs.declared.texts.UppinaloReading.{UppinaloReading}
 use Rattle.uppinalo.specs.declared.offsets.UppinaloOffsetAnswer.{UppinaloOffsetAnswer}
 

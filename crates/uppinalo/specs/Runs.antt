@@ -8,7 +8,7 @@ use Rattle.double.specs.declared.Reading.{Reading}
 use Rattle.axis_record.specs.declared.Axis.{Axis}
 use Rattle.runs.specs.Run.{runAnswer, runWritten}
 use Rattle.runs.specs.declared.RunAnswer.{RunAnswer}
-use Rattle.uppinalo.specs.declared.codes.CodedAxis.{CodedAxis}
+use Rattle.codes.specs.declared.CodedAxis.{CodedAxis}
 
 abbrev pub noRun : Refusal → RunAnswer
 noRun r = record { number = numberOf r; place = 0; length = 0; rounded = 0 }

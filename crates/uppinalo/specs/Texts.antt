@@ -11,8 +11,8 @@ use Rattle.iso_form.specs.declared.LengthAnswer.{LengthAnswer}
 use Rattle.iso_text.specs.Iso.{writeIso, roomIso}
 use Rattle.axis_record.specs.Axis.{zeroAxis}
 use Rattle.axis_text.specs.declared.AxisAnswer.{AxisAnswer}
-use Rattle.uppinalo.specs.Codes.{axisCode}
-use Rattle.uppinalo.specs.declared.codes.CodedCalendar.{CodedCalendar}
+use Rattle.codes.specs.Codes.{axisCode}
+use Rattle.codes.specs.declared.CodedCalendar.{CodedCalendar}
 use Rattle.uppinalo.specs.declared.texts.UppinaloReading.{UppinaloReading}
 use Rattle.uppinalo.specs.declared.texts.UppinaloLengthAnswer.{UppinaloLengthAnswer}
 use Rattle.uppinalo.specs.declared.texts.UppinaloAxisAnswer.{UppinaloAxisAnswer}

@@ -1,12 +1,11 @@
 // Days and instants of a calendar.
 ghost use mathlib.Core.Path.{_≡_};
-ghost use Rattle.uppinalo.specs.Codes.{calendarOf};
+ghost use Rattle.codes.specs.Codes.{calendarOf};
 ghost use Rattle.uppinalo.specs.Days.{noDate, noDay, noFields, ofDate, ofDay, ofFields, dateIn, dayIn, fieldsIn};
-use crate::codes;
-use crate::codes::CodedCalendar;
 use calendar::Date;
 use calendar::DateAnswer;
 use calendar::DayAnswer;
+use codes::CodedCalendar;
 use instant::Fields;
 use instant::FieldsAnswer;
 use refusal::Refusal;

@@ -1,5 +1,4 @@
 // The face of the library: the calls of include/uppinalo.h, thin, each with its complete promise.
-pub mod codes;
 pub mod days;
 pub mod offset_runs;
 pub mod offsets;

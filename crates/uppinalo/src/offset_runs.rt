@@ -1,11 +1,10 @@
 // Runs of offsets on an axis.
 ghost use mathlib.Core.Path.{_≡_};
 ghost use Rattle.axis.specs.Axis.{readWholeOn, readDoubleOn};
-ghost use Rattle.uppinalo.specs.Codes.{axisOf};
+ghost use Rattle.codes.specs.Codes.{axisOf};
 ghost use Rattle.uppinalo.specs.Runs.{noRun, runOn, destinationOn};
-use crate::codes;
-use crate::codes::CodedAxis;
-use crate::codes::UppinaloAxis;
+use codes::CodedAxis;
+use codes::UppinaloAxis;
 use refusal::Refusal;
 use runs::RunAnswer;
 

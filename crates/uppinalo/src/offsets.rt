@@ -1,12 +1,11 @@
 // One offset on an axis.
 ghost use mathlib.Core.Path.{_≡_};
 ghost use Rattle.axis.specs.Axis.{readWholeOn, readDoubleOn, writeInstantOn, writeFieldsOn};
-ghost use Rattle.uppinalo.specs.Codes.{axisOf};
+ghost use Rattle.codes.specs.Codes.{axisOf};
 ghost use Rattle.uppinalo.specs.Offsets.{noReading, ofReading, noOffset, ofOffset, readOn, writeOn};
-use crate::codes;
-use crate::codes::CodedAxis;
-use crate::codes::UppinaloAxis;
 use crate::texts::UppinaloReading;
+use codes::CodedAxis;
+use codes::UppinaloAxis;
 use double::Reading;
 use fixed_axis::OffsetAnswer;
 use instant::Fields;

@@ -2,12 +2,11 @@
 ghost use mathlib.Core.Path.{_≡_};
 ghost use Rattle.iso_text.specs.Iso.{readIso};
 ghost use Rattle.axis_text.specs.Units.{readUnits};
-ghost use Rattle.uppinalo.specs.Codes.{calendarOf};
+ghost use Rattle.codes.specs.Codes.{calendarOf};
 ghost use Rattle.uppinalo.specs.Texts.{noLength, ofLength, lengthIn, roomIn, ofInstant, noAxis, ofAxis};
-use crate::codes;
-use crate::codes::CodedCalendar;
-use crate::codes::UppinaloAxis;
 use axis_text::AxisAnswer;
+use codes::CodedCalendar;
+use codes::UppinaloAxis;
 use instant::InstantAnswer;
 use iso_form::LengthAnswer;
 use refusal::Refusal;

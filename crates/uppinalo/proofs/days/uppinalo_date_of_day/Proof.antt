@@ -1,7 +1,7 @@
 -- `uppinalo::days::uppinalo_date_of_day` meets its contract. Assumes nothing.
 use mathlib.Core.Path.{sym, ap, _∙_}
 use Rattle.uppinalo.specs.Days.{dateIn, ofDate}
-use Rattle.uppinalo.specs.declared.codes.CodedCalendar.{CodedCalendar}
+use Rattle.codes.specs.declared.CodedCalendar.{CodedCalendar}
 use lib.IntN.{ℤ}
 use mir.Syntax.{w64}
 use mir.ValLaws.{toZ-ofZ}

@@ -1,7 +1,7 @@
 -- `uppinalo::days::uppinalo_day_of_date` meets its contract. Assumes nothing.
 use mathlib.Core.Path.{sym, ap, _∙_}
 use Rattle.uppinalo.specs.Days.{dayIn, ofDay}
-use Rattle.uppinalo.specs.declared.codes.CodedCalendar.{CodedCalendar}
+use Rattle.codes.specs.declared.CodedCalendar.{CodedCalendar}
 use borrow.Author.Needs.{needs}
 use Rattle.uppinalo.proofs.days.uppinalo_day_of_date.Statement.{statement}
 use Rattle.uppinalo.proofs.days.uppinalo_day_of_date.Tie as tie

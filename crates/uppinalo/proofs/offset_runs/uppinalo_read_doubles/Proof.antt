@@ -2,7 +2,7 @@
 use mathlib.Core.Path.{sym, ap, _∙_}
 use Rattle.axis.specs.Axis.{readDoubleOn}
 use Rattle.uppinalo.specs.Runs.{runOn, destinationOn}
-use Rattle.uppinalo.specs.declared.codes.CodedAxis.{CodedAxis}
+use Rattle.codes.specs.declared.CodedAxis.{CodedAxis}
 use borrow.Author.Needs.{needs}
 use Rattle.uppinalo.proofs.offset_runs.uppinalo_read_doubles.Statement.{statement}
 use Rattle.uppinalo.proofs.offset_runs.uppinalo_read_doubles.Tie as tie

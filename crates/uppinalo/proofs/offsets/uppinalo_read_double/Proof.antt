@@ -3,7 +3,7 @@ use mathlib.Core.Path.{sym, ap, _∙_}
 use Rattle.axis.specs.Axis.{readDoubleOn}
 use Rattle.axis_record.specs.declared.Axis.{Axis}
 use Rattle.uppinalo.specs.Offsets.{ofReading, readOn}
-use Rattle.uppinalo.specs.declared.codes.CodedAxis.{CodedAxis}
+use Rattle.codes.specs.declared.CodedAxis.{CodedAxis}
 use borrow.Author.Needs.{needs}
 use Rattle.uppinalo.proofs.offsets.uppinalo_read_double.Statement.{statement}
 use Rattle.uppinalo.proofs.offsets.uppinalo_read_double.Tie as tie

@@ -3,7 +3,7 @@ use mathlib.Core.Path.{sym, ap, _∙_}
 use Rattle.axis.specs.Axis.{readWholeOn}
 use Rattle.axis_record.specs.declared.Axis.{Axis}
 use Rattle.uppinalo.specs.Offsets.{ofReading, readOn}
-use Rattle.uppinalo.specs.declared.codes.CodedAxis.{CodedAxis}
+use Rattle.codes.specs.declared.CodedAxis.{CodedAxis}
 use lib.IntN.{ℤ}
 use mir.Syntax.{w64}
 use mir.ValLaws.{toZ-ofZ}

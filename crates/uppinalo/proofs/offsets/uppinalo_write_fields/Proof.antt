@@ -3,7 +3,7 @@ use mathlib.Core.Path.{sym, ap, _∙_}
 use Rattle.axis.specs.Axis.{writeFieldsOn}
 use Rattle.axis_record.specs.declared.Axis.{Axis}
 use Rattle.uppinalo.specs.Offsets.{ofOffset, writeOn}
-use Rattle.uppinalo.specs.declared.codes.CodedAxis.{CodedAxis}
+use Rattle.codes.specs.declared.CodedAxis.{CodedAxis}
 use borrow.Author.Needs.{needs}
 use Rattle.uppinalo.proofs.offsets.uppinalo_write_fields.Statement.{statement}
 use Rattle.uppinalo.proofs.offsets.uppinalo_write_fields.Tie as tie

@@ -5,7 +5,7 @@ use mir.Syntax.{w64}
 use mir.ValLaws.{toZ-ofZ}
 use Rattle.iso_text.specs.Iso.{writeIso, roomIso}
 use Rattle.uppinalo.specs.Texts.{ofLength, lengthIn, roomIn}
-use Rattle.uppinalo.specs.declared.codes.CodedCalendar.{CodedCalendar}
+use Rattle.codes.specs.declared.CodedCalendar.{CodedCalendar}
 use borrow.Author.Needs.{needs}
 use Rattle.uppinalo.proofs.texts.uppinalo_write_iso.Statement.{statement}
 use Rattle.uppinalo.proofs.texts.uppinalo_write_iso.Tie as tie

@@ -1,9 +1,9 @@
--- `uppinalo::codes::mode_of` meets its contract. Assumes nothing.
+-- `codes::mode_of` meets its contract. Assumes nothing.
 use mathlib.Core.Path.{sym, ap}
-use Rattle.uppinalo.specs.Codes.{modeOf}
-use Rattle.uppinalo.proofs.Unknown.{unknown-mode}
-use Rattle.uppinalo.proofs.codes.mode_of.Statement.{statement}
-use Rattle.uppinalo.proofs.codes.mode_of.Tie as tie
+use Rattle.codes.specs.Codes.{modeOf}
+use Rattle.codes.proofs.Unknown.{unknown-mode}
+use Rattle.codes.proofs.mode_of.Statement.{statement}
+use Rattle.codes.proofs.mode_of.Tie as tie
 
 returns : tie.Need-returns
 returns c = ap modeOf (sym (c .if1 .taken))

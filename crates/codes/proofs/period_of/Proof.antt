@@ -1,9 +1,9 @@
--- `uppinalo::codes::period_of` meets its contract. Assumes nothing.
+-- `codes::period_of` meets its contract. Assumes nothing.
 use mathlib.Core.Path.{sym, ap}
-use Rattle.uppinalo.specs.Codes.{periodOf}
-use Rattle.uppinalo.proofs.Unknown.{unknown-period}
-use Rattle.uppinalo.proofs.codes.period_of.Statement.{statement}
-use Rattle.uppinalo.proofs.codes.period_of.Tie as tie
+use Rattle.codes.specs.Codes.{periodOf}
+use Rattle.codes.proofs.Unknown.{unknown-period}
+use Rattle.codes.proofs.period_of.Statement.{statement}
+use Rattle.codes.proofs.period_of.Tie as tie
 
 returns : tie.Need-returns
 returns c = ap periodOf (sym (c .if1 .taken))

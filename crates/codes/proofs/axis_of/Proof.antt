@@ -1,13 +1,13 @@
--- `uppinalo::codes::axis_of` meets its contract. Assumes nothing.
+-- `codes::axis_of` meets its contract. Assumes nothing.
 use mathlib.Core.Path.{sym, _∙_}
 use mir.Syntax.{w64}
 use mir.Val.{SFits}
 use mir.ValLaws.{toZ-ofZ}
-use Rattle.uppinalo.specs.Codes.{periodOf, modeOf, axisWith, axisOf}
-use Rattle.uppinalo.specs.declared.codes.CodedAxis.{CodedAxis}
+use Rattle.codes.specs.Codes.{periodOf, modeOf, axisWith, axisOf}
+use Rattle.codes.specs.declared.CodedAxis.{CodedAxis}
 use borrow.Author.Needs.{needs}
-use Rattle.uppinalo.proofs.codes.axis_of.Statement.{statement}
-use Rattle.uppinalo.proofs.codes.axis_of.Tie as tie
+use Rattle.codes.proofs.axis_of.Statement.{statement}
+use Rattle.codes.proofs.axis_of.Tie as tie
 
 calendar-of-requires : tie.Need-calendar-of-requires
 calendar-of-requires c κs = search needs

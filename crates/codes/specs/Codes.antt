@@ -7,11 +7,11 @@ use Rattle.period.specs.declared.Period.{Period}
 use Rattle.period.specs.declared.Period.the-variants.{Second, Millisecond, Minute, Hour, Day, Week, Month, Year}
 use Rattle.period.specs.declared.Mode.{Mode}
 use Rattle.axis_record.specs.declared.Axis.{Axis}
-use Rattle.uppinalo.specs.declared.codes.CodedCalendar.{CodedCalendar}
-use Rattle.uppinalo.specs.declared.codes.CodedPeriod.{CodedPeriod}
-use Rattle.uppinalo.specs.declared.codes.CodedMode.{CodedMode}
-use Rattle.uppinalo.specs.declared.codes.CodedAxis.{CodedAxis}
-use Rattle.uppinalo.specs.declared.codes.UppinaloAxis.{UppinaloAxis}
+use Rattle.codes.specs.declared.CodedCalendar.{CodedCalendar}
+use Rattle.codes.specs.declared.CodedPeriod.{CodedPeriod}
+use Rattle.codes.specs.declared.CodedMode.{CodedMode}
+use Rattle.codes.specs.declared.CodedAxis.{CodedAxis}
+use Rattle.codes.specs.declared.UppinaloAxis.{UppinaloAxis}
 
 -- ---- what a code names
 

@@ -1,6 +1,6 @@
 // The numbers by which calendars, periods and modes cross the C boundary.
 ghost use mathlib.Core.Path.{_≡_};
-ghost use Rattle.uppinalo.specs.Codes.{calendarOf, periodOf, modeOf, axisOf, calendarCode, periodCode, modeCode, axisCode};
+ghost use Rattle.codes.specs.Codes.{calendarOf, periodOf, modeOf, axisOf, calendarCode, periodCode, modeCode, axisCode};
 use axis_record::Axis;
 use calendar::Calendar;
 use period::Mode;

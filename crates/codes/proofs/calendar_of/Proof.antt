@@ -1,9 +1,9 @@
--- `uppinalo::codes::calendar_of` meets its contract. Assumes nothing.
+-- `codes::calendar_of` meets its contract. Assumes nothing.
 use mathlib.Core.Path.{sym, ap}
-use Rattle.uppinalo.specs.Codes.{calendarOf}
-use Rattle.uppinalo.proofs.Unknown.{unknown-calendar}
-use Rattle.uppinalo.proofs.codes.calendar_of.Statement.{statement}
-use Rattle.uppinalo.proofs.codes.calendar_of.Tie as tie
+use Rattle.codes.specs.Codes.{calendarOf}
+use Rattle.codes.proofs.Unknown.{unknown-calendar}
+use Rattle.codes.proofs.calendar_of.Statement.{statement}
+use Rattle.codes.proofs.calendar_of.Tie as tie
 
 returns : tie.Need-returns
 returns c = ap calendarOf (sym (c .if1 .taken))

@@ -1,10 +1,10 @@
--- `uppinalo::codes::axis_code` meets its contract. Assumes nothing.
+-- `codes::axis_code` meets its contract. Assumes nothing.
 use mir.Syntax.{w64}
 use mir.Val.{SFits}
 use mir.ValLaws.{toZ-ofZ}
 use borrow.Author.Needs.{needs}
-use Rattle.uppinalo.proofs.codes.axis_code.Statement.{statement}
-use Rattle.uppinalo.proofs.codes.axis_code.Tie as tie
+use Rattle.codes.proofs.axis_code.Statement.{statement}
+use Rattle.codes.proofs.axis_code.Tie as tie
 
 calendar-code-requires : tie.Need-calendar-code-requires
 calendar-code-requires c κs = search needs

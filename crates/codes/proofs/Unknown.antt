@@ -1,10 +1,10 @@
 -- Codes that name nothing.
 use mathlib.Core.Path.{_≡_, refl}
 use Prim.Native.Nat.{ℕ, zero, suc}
-use Rattle.uppinalo.specs.Codes.{calendarOf, periodOf, modeOf}
-use Rattle.uppinalo.specs.declared.codes.CodedCalendar.{CodedCalendar}
-use Rattle.uppinalo.specs.declared.codes.CodedPeriod.{CodedPeriod}
-use Rattle.uppinalo.specs.declared.codes.CodedMode.{CodedMode}
+use Rattle.codes.specs.Codes.{calendarOf, periodOf, modeOf}
+use Rattle.codes.specs.declared.CodedCalendar.{CodedCalendar}
+use Rattle.codes.specs.declared.CodedPeriod.{CodedPeriod}
+use Rattle.codes.specs.declared.CodedMode.{CodedMode}
 
 pub unknown-calendar : (n : ℕ) → (n ≡ 0 → ⊥) → (n ≡ 1 → ⊥) → (n ≡ 2 → ⊥) → (n ≡ 3 → ⊥) → (n ≡ 4 → ⊥) → (n ≡ 5 → ⊥) → CodedCalendar.Unknown ≡ calendarOf n
 unknown-calendar zero a b c d e f = absurd (a refl)
