@@ -23,7 +23,7 @@ fn instant(random: &mut Random, axis: Axis) -> (&'static str, i64) {
 }
 
 pub fn write_instant(run: &mut Run) {
-    for _ in 0..run.count(300_000, 5_000_000) {
+    for _ in 0..run.count(300_000, 7_000_000) {
         let (axis_kind, axis) = axes::axis(&mut run.random);
         let (kind, instant) = instant(&mut run.random, axis);
         let second = boundary::write_instant(axis, instant);
@@ -60,7 +60,7 @@ fn damaged(random: &mut Random, fields: Fields) -> (&'static str, Fields) {
 }
 
 pub fn write_fields(run: &mut Run) {
-    for _ in 0..run.count(300_000, 5_000_000) {
+    for _ in 0..run.count(300_000, 7_000_000) {
         let (axis_kind, axis) = axes::axis(&mut run.random);
         let (kind, instant) = instant(&mut run.random, axis);
         let good = boundary::fields_of(axis.calendar.min(5), instant).fields;
