@@ -11,7 +11,7 @@ use borrow.Author.Tests.{ltb-true, ltb-false}
 use Rattle.refusal.specs.declared.Refusal.the-variants.{NoSuchDate, OutOfRange}
 use Rattle.signed.specs.Bias.{lift}
 use Rattle.signed.proofs.Differences.{lift-sub}
-use Rattle.calendar.specs.Calendar.{date, dateOf, exists, hasYearZero, inYears, kind}
+use Rattle.calendar.specs.Calendar.{date, dateOf, exists, hasYearZero, inYears, kind, monthDays}
 use Rattle.calendar.specs.Answers.{dateAnswer, dayAnswer, dayNumber, pickDateAnswer, pickDayAnswer}
 use Rattle.calendar.specs.Closed.{base, dayAt, guess, label, monthOf, monthStart, place, row, yearAt, yearStart, Labelled, Split}
 use Rattle.calendar.specs.declared.Calendar.{Calendar}
@@ -27,7 +27,7 @@ use Rattle.calendar.proofs.Tables.{month-of}
 use Rattle.calendar.proofs.Places.{pickPlace, split-place}
 use Rattle.calendar.proofs.Existing.{date-eq, Valid, valid-of, valid-year}
 use Rattle.calendar.proofs.Labels.{by-year}
-use Rattle.calendar.proofs.Plain.{Ruled, dated, proleptic, julian, noleap, allleap, thirty}
+use Rattle.calendar.proofs.Plain.{dated, proleptic, julian, noleap, allleap, thirty}
 use Rattle.calendar.proofs.Mixed.{dated-early, dated-late}
 use Rattle.calendar.proofs.Range.{inside-of, lowDay, highDay}
 use Rattle.calendar.proofs.Counting.{numbered}
@@ -101,20 +101,23 @@ lifted c z h =
     ap (λ (w : ℤ). subℕ (lift w (base c)) (base c)) (sym (k .is)) ∙ (ap (λ (n : ℕ). subℕ n (base c)) (lift-sub (k .number) (base c)) ∙ k .is)
 
 -- whether a day number lies in the range
-unfoldable pub dayInside : (c : Calendar) (z : ℤ) → Known (inYears (dateOf c z .year))
-dayInside c z = record { value = leZ (lowDay c) z && leZ z (highDay c); is = range c z }
+unfoldable pub inYearsKnown : (c : Calendar) (z : ℤ) → Known (inYears (dateOf c z .year))
+inYearsKnown c z = record { value = leZ (lowDay c) z && leZ z (highDay c); is = range c z }
 
 -- the date of a day number, or its refusal
-unfoldable pub dateKnown : (c : Calendar) (z : ℤ) → Known (dateAnswer c z)
-unfolding dayInside dateAnswer
-dateKnown c z = record { value = pickDateAnswer (dayInside c z .value) (DateAnswer.Is found) (DateAnswer.Refused OutOfRange); is = go (inYears (dateOf c z .year)) (dayInside c z .value) refl (range c z) }
+unfoldable pub dateAnswerKnown : (c : Calendar) (z : ℤ) → Known (dateAnswer c z)
+unfolding dateAnswer inYearsKnown placeIn placeOf yearOf row yearStart monthStart monthDays
+dateAnswerKnown c z = record { value = answer (inYearsKnown c z .value); is = in-range (inYears (dateOf c z .year)) refl ∙ ap answer (range c z) }
   where
     found : Date
     found = label (hasYearZero c) (placeIn c (lift z (base c)))
 
-    go : (b t : Bool) → inYears (dateOf c z .year) ≡ b → b ≡ t → pickDateAnswer b (DateAnswer.Is (dateOf c z)) (DateAnswer.Refused OutOfRange) ≡ pickDateAnswer t (DateAnswer.Is found) (DateAnswer.Refused OutOfRange)
-    go true t h e = ap DateAnswer.Is (ap (dateOf c) (sym (lifted c z h)) ∙ date-in c (lift z (base c))) ∙ ap (λ (s : Bool). pickDateAnswer s (DateAnswer.Is found) (DateAnswer.Refused OutOfRange)) e
-    go false t h e = ap (λ (s : Bool). pickDateAnswer s (DateAnswer.Is found) (DateAnswer.Refused OutOfRange)) e
+    answer : Bool → DateAnswer
+    answer b = pickDateAnswer b (DateAnswer.Is found) (DateAnswer.Refused OutOfRange)
+
+    in-range : (b : Bool) → inYears (dateOf c z .year) ≡ b → pickDateAnswer b (DateAnswer.Is (dateOf c z)) (DateAnswer.Refused OutOfRange) ≡ answer b
+    in-range true h = ap DateAnswer.Is (ap (dateOf c) (sym (lifted c z h)) ∙ date-in c (lift z (base c)))
+    in-range false h = refl
 
 -- ---- the day number of a date
 
@@ -144,13 +147,14 @@ number-of c x h g =
     number-is c x (numberOf c x) h (numbered c y (x .month) (x .day) o (subst (Valid c) (sym e) v) (ap (λ (w : ℤ). monthStart (kind c w) (x .month - 1) + (x .day - 1)) (sym is)) ∙ e)
 
 -- the day number of a date, or its refusal
-unfoldable pub dayKnown : (c : Calendar) (x : Date) → Known (dayAnswer c x)
-unfolding dayAnswer
-dayKnown c x = record { value = pickDayAnswer (inYears (x .year)) (pickDayAnswer (exists c x) (DayAnswer.Is (numberOf c x)) (DayAnswer.Refused NoSuchDate)) (DayAnswer.Refused OutOfRange); is = go (inYears (x .year)) (exists c x) refl refl }
+unfoldable pub dayAnswerKnown : (c : Calendar) (x : Date) → Known (dayAnswer c x)
+unfolding dayAnswer exists numberOf yearCount kind yearStart monthStart monthDays
+dayAnswerKnown c x = record { value = answer (numberOf c x) (inYears (x .year)) (exists c x); is = there (inYears (x .year)) (exists c x) refl refl }
   where
-    go : (a b : Bool) → inYears (x .year) ≡ a → exists c x ≡ b
-        → pickDayAnswer a (pickDayAnswer b (DayAnswer.Is (dayNumber c x)) (DayAnswer.Refused NoSuchDate)) (DayAnswer.Refused OutOfRange)
-        ≡ pickDayAnswer a (pickDayAnswer b (DayAnswer.Is (numberOf c x)) (DayAnswer.Refused NoSuchDate)) (DayAnswer.Refused OutOfRange)
-    go true true h g = ap DayAnswer.Is (number-of c x h g)
-    go true false h g = refl
-    go false b h g = refl
+    answer : ℤ → Bool → Bool → DayAnswer
+    answer n a b = pickDayAnswer a (pickDayAnswer b (DayAnswer.Is n) (DayAnswer.Refused NoSuchDate)) (DayAnswer.Refused OutOfRange)
+
+    there : (a b : Bool) → inYears (x .year) ≡ a → exists c x ≡ b → answer (dayNumber c x) a b ≡ answer (numberOf c x) a b
+    there true true h g = ap DayAnswer.Is (number-of c x h g)
+    there true false h g = refl
+    there false b h g = refl
