@@ -1,6 +1,6 @@
 -- The answers of the calls, known for all inputs, from the dates and day numbers of Days.antt.
 use mathlib.Core.Path.{_≡_, sym, _∙_}
-use mathlib.Core.Bool.{Bool, cond}
+use mathlib.Core.Bool.{Bool, true, cond}
 use mathlib.Core.List.{List}
 use mathlib.Core.Option.{Option, none, some}
 use Prim.Native.Nat.{ℕ}
@@ -126,7 +126,7 @@ module _ (c : Calendar) where
 module _ (c : Calendar) (p : Period) (R : ℤ) where
   unfoldable pub readWholeKnown : (n : ℤ) → Known (readWhole c p R n)
   unfolding readWhole fromReferenceKnown readingAtKnown
-  readWholeKnown n = fromReferenceKnown c R (readingAtKnown c (timeAfter p R n) Bool.true)
+  readWholeKnown n = fromReferenceKnown c R (readingAtKnown c (timeAfter p R n) true)
 
   unfoldable pub readFloatKnown : (x : Float) → Known (readFloat c p R x)
   unfolding readingAtKnown distance

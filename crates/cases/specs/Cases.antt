@@ -1,4 +1,4 @@
--- The cases by hand of document 01, "Cases by hand", that are to be proved: one list, for which proofs/Cases.antt has a single proof.
+-- The cases of document 01, "Cases by hand", that it marks for proof, row by row: one list, and proofs/Cases.antt has one proof of it.
 use mathlib.Core.Bool.{Bool, true, false}
 use mathlib.Core.List.{List, [], _∷_}
 use Prim.Native.Nat.{ℕ}
@@ -20,7 +20,7 @@ use Rattle.grammar.specs.Rules.{bytes}
 
 -- ---- what an offset reads as, by the definitions of the calls
 
--- an ISO text, and whether it is exact; or a refusal's number
+-- the ISO text of an instant, and whether the reading is exact; or a refusal's number
 pub data Answer : Type 0 where
   text : List ℕ → Bool → Answer
   refused : ℕ → Answer
@@ -48,14 +48,15 @@ pub record Case : Type 0 where
   pub offset : Offset
   pub expected : Answer
 
+-- the units text makes an axis in the calendar, the offset is read on it, and the fields of the instant are written
 unfoldable pub answerOf : Case → Answer
 answerOf k = axisAnswer (readUnits (k .calendar) (k .units)) (k .offset)
 
--- a whole offset, which reads exactly
+-- a row with a whole offset, which is exact
 abbrev pub whole : String → String → ℕ → String → Case
 whole calendar units n answer = record { calendar = bytes calendar; units = bytes units; offset = Offset.Whole (pos n); expected = text (bytes answer) true }
 
--- a double that is rounded
+-- a row with a double that is rounded
 abbrev pub rounded : String → String → Float → String → Case
 rounded calendar units x answer = record { calendar = bytes calendar; units = bytes units; offset = Offset.Double x; expected = text (bytes answer) false }
 
@@ -72,6 +73,6 @@ cases =
     ∷ whole "standard" "calendar months since 1930-01-31" 1 "1930-02-28T00:00:00.000000Z"
     ∷ whole "standard" "calendar months since 1582-09-10" 1 "1582-10-04T00:00:00.000000Z"
     ∷ whole "standard" "hours since 1930-01-01 00:30 +01:00" 1 "1930-01-01T00:30:00.000000Z"
-    -- 3/128, which is 3 times 2 to the power -7: 23437.5 microseconds, a tie
+    -- 3/128 s, written as 3 times 2 to the power of -7: 23437.5 microseconds, a tie
     ∷ rounded "standard" "seconds since 1970-01-01" (fin false 3 (negsuc 6)) "1970-01-01T00:00:00.023438Z"
     ∷ []

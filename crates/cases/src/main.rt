@@ -1,6 +1,6 @@
-// Runs document 01's cases by hand over the library's calls. A line for each case: the calendar, the units text, the offset that is read or the
-// date that is written, and the answer. The stored output is written by hand from the document. Those that the document marks are also proved
-// over the definitions (specs/Cases.antt).
+// Runs the cases by hand of document 01 over the library's calls. A line for each case: the calendar, the units text, the offset
+// that is read or the date that is written, and the answer. The stored output is written by hand from document 01. The cases of the
+// first two groups are proved over the definitions too (specs/Cases.antt).
 use axis::Offset;
 use axis_record::Axis;
 use axis_text::AxisAnswer;
@@ -20,11 +20,6 @@ fn print_part(text: &[u8]) {
     io::write_all(1, b" | ");
 }
 
-fn print_end(text: &[u8]) {
-    io::write_all(1, text);
-    io::write_all(1, b"\n");
-}
-
 fn print_signed(n: i64) {
     let k = signed::biased(n);
     if k < ZERO {
@@ -41,6 +36,14 @@ fn print_refusal(r: Refusal) {
     io::write_all(1, b"\n");
 }
 
+fn print_mark(exact: bool) {
+    if exact {
+        io::write_all(1, b"\n");
+        return;
+    }
+    io::write_all(1, b" rounded\n");
+}
+
 fn print_instant(c: Calendar, t: i64, exact: bool) {
     let mut room = [0u8; 28];
     match iso_text::write_iso(c, t, &mut room) {
@@ -50,11 +53,7 @@ fn print_instant(c: Calendar, t: i64, exact: bool) {
                 let start: usize = 0;
                 io::write_all(1, &room[start..n]);
             }
-            if exact {
-                print_end(b"");
-                return;
-            }
-            print_end(b" rounded");
+            print_mark(exact);
         }
     }
 }
@@ -80,7 +79,7 @@ fn read_whole(name: &[u8], units: &[u8], n: i64) {
     print_part(name);
     print_part(units);
     print_signed(n);
-    print_part(b"");
+    io::write_all(1, b" | ");
     print_read(name, units, Offset::Whole(n));
 }
 
@@ -91,7 +90,7 @@ fn read_double(name: &[u8], units: &[u8], a: u32, b: u32) {
     io::print_decimal(1, a as u64);
     io::write_all(1, b"/");
     io::print_decimal(1, b as u64);
-    print_part(b"");
+    io::write_all(1, b" | ");
     print_read(name, units, Offset::Double(a as f64 / b as f64));
 }
 
@@ -102,7 +101,7 @@ fn print_written(axis: Axis, t: i64) {
         OffsetAnswer::Refused(r) => print_refusal(r),
         OffsetAnswer::Is(n) => {
             print_signed(n);
-            print_end(b"");
+            io::write_all(1, b"\n");
         }
     }
 }
@@ -126,26 +125,54 @@ fn write_date(name: &[u8], units: &[u8], date: &[u8]) {
 
 // ---- the cases
 
-fn main() {
+fn calendars() {
     read_whole(b"standard", b"days since 1582-10-04", 1);
     read_whole(b"proleptic_gregorian", b"days since 1582-10-04", 1);
     read_whole(b"standard", b"days since -1-12-31", 1);
     read_whole(b"julian", b"days since 1900-02-28", 1);
     read_whole(b"360_day", b"days since 2023-02-30", 1);
     read_whole(b"noleap", b"days since 2000-02-28", 1);
+}
+
+fn periods() {
     read_whole(b"standard", b"months since 1930-01-01", 1);
     read_whole(b"standard", b"years since 1850-01-01", 10);
     read_whole(b"standard", b"calendar months since 1930-01-31", 1);
     read_whole(b"standard", b"calendar months since 1582-09-10", 1);
     read_whole(b"standard", b"hours since 1930-01-01 00:30 +01:00", 1);
     read_double(b"standard", b"seconds since 1970-01-01", 3, 128);
+}
+
+fn last_days() {
     read_whole(b"standard", b"days since 1970-01-01", 2932896);
     read_whole(b"standard", b"days since 1970-01-01", 2932897);
     read_whole(b"360_day", b"days since 1970-01-01", 2890799);
     read_whole(b"360_day", b"days since 1970-01-01", 2890800);
-    write_date(b"standard", b"calendar months since 1930-01-31", b"1930-02-28");
-    write_date(b"standard", b"calendar months since 1930-01-31", b"1930-02-27");
+}
+
+fn written_dates() {
+    write_date(
+        b"standard",
+        b"calendar months since 1930-01-31",
+        b"1930-02-28",
+    );
+    write_date(
+        b"standard",
+        b"calendar months since 1930-01-31",
+        b"1930-02-27",
+    );
+}
+
+fn refused_texts() {
     read_whole(b"standard", b"days since 1582-10-05", 0);
     read_whole(b"standard", b"ss since 1970", 0);
     read_whole(b"standard", b"days since 1970-01-01Z", 0);
+}
+
+fn main() {
+    calendars();
+    periods();
+    last_days();
+    written_dates();
+    refused_texts();
 }
