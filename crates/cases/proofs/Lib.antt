@@ -1,0 +1,4 @@
+pub mod Known
+pub mod Days
+pub mod Answers
+pub mod Cases

@@ -1,0 +1,178 @@
+// Runs the cases by hand of document 01 over the library's calls. A line for each case: the calendar, the units text, the offset
+// that is read or the date that is written, and the answer. The stored output is written by hand from document 01. The cases of the
+// first two groups are proved over the definitions too (specs/Cases.antt).
+use axis::Offset;
+use axis_record::Axis;
+use axis_text::AxisAnswer;
+use calendar::Calendar;
+use double::Reading;
+use fixed_axis::OffsetAnswer;
+use instant::InstantAnswer;
+use iso_form::LengthAnswer;
+use refusal::Refusal;
+
+const ZERO: u64 = 0x8000_0000_0000_0000;
+
+// ---- parts of a line
+
+fn print_part(text: &[u8]) {
+    io::write_all(1, text);
+    io::write_all(1, b" | ");
+}
+
+fn print_signed(n: i64) {
+    let k = signed::biased(n);
+    if k < ZERO {
+        io::write_all(1, b"-");
+        io::print_decimal(1, ZERO - k);
+        return;
+    }
+    io::print_decimal(1, k - ZERO);
+}
+
+fn print_refusal(r: Refusal) {
+    io::write_all(1, b"refused ");
+    io::print_decimal(1, refusal::number(r) as u64);
+    io::write_all(1, b"\n");
+}
+
+fn print_mark(exact: bool) {
+    if exact {
+        io::write_all(1, b"\n");
+        return;
+    }
+    io::write_all(1, b" rounded\n");
+}
+
+fn print_instant(c: Calendar, t: i64, exact: bool) {
+    let mut room = [0u8; 28];
+    match iso_text::write_iso(c, t, &mut room) {
+        LengthAnswer::Refused(r) => print_refusal(r),
+        LengthAnswer::Is(n) => {
+            if n <= room.len() {
+                let start: usize = 0;
+                io::write_all(1, &room[start..n]);
+            }
+            print_mark(exact);
+        }
+    }
+}
+
+// ---- an offset that is read
+
+fn print_reading(axis: Axis, offset: Offset) {
+    let c = axis.calendar;
+    match axis::read(axis, offset) {
+        Reading::Refused(r) => print_refusal(r),
+        Reading::At(t, exact) => print_instant(c, t, exact),
+    }
+}
+
+fn print_read(name: &[u8], units: &[u8], offset: Offset) {
+    match axis_text::read_units(name, units) {
+        AxisAnswer::Refused(r) => print_refusal(r),
+        AxisAnswer::Is(axis) => print_reading(axis, offset),
+    }
+}
+
+fn read_whole(name: &[u8], units: &[u8], n: i64) {
+    print_part(name);
+    print_part(units);
+    print_signed(n);
+    io::write_all(1, b" | ");
+    print_read(name, units, Offset::Whole(n));
+}
+
+// The double that is the quotient of two numbers.
+fn read_double(name: &[u8], units: &[u8], a: u32, b: u32) {
+    print_part(name);
+    print_part(units);
+    io::print_decimal(1, a as u64);
+    io::write_all(1, b"/");
+    io::print_decimal(1, b as u64);
+    io::write_all(1, b" | ");
+    print_read(name, units, Offset::Double(a as f64 / b as f64));
+}
+
+// ---- a date that is written
+
+fn print_written(axis: Axis, t: i64) {
+    match axis::write_instant(axis, t) {
+        OffsetAnswer::Refused(r) => print_refusal(r),
+        OffsetAnswer::Is(n) => {
+            print_signed(n);
+            io::write_all(1, b"\n");
+        }
+    }
+}
+
+fn print_written_date(axis: Axis, name: &[u8], date: &[u8]) {
+    match iso_text::read_iso(name, date) {
+        InstantAnswer::Refused(r) => print_refusal(r),
+        InstantAnswer::Is(t) => print_written(axis, t),
+    }
+}
+
+fn write_date(name: &[u8], units: &[u8], date: &[u8]) {
+    print_part(name);
+    print_part(units);
+    print_part(date);
+    match axis_text::read_units(name, units) {
+        AxisAnswer::Refused(r) => print_refusal(r),
+        AxisAnswer::Is(axis) => print_written_date(axis, name, date),
+    }
+}
+
+// ---- the cases
+
+fn calendars() {
+    read_whole(b"standard", b"days since 1582-10-04", 1);
+    read_whole(b"proleptic_gregorian", b"days since 1582-10-04", 1);
+    read_whole(b"standard", b"days since -1-12-31", 1);
+    read_whole(b"julian", b"days since 1900-02-28", 1);
+    read_whole(b"360_day", b"days since 2023-02-30", 1);
+    read_whole(b"noleap", b"days since 2000-02-28", 1);
+}
+
+fn periods() {
+    read_whole(b"standard", b"months since 1930-01-01", 1);
+    read_whole(b"standard", b"years since 1850-01-01", 10);
+    read_whole(b"standard", b"calendar months since 1930-01-31", 1);
+    read_whole(b"standard", b"calendar months since 1582-09-10", 1);
+    read_whole(b"standard", b"hours since 1930-01-01 00:30 +01:00", 1);
+    read_double(b"standard", b"seconds since 1970-01-01", 3, 128);
+}
+
+fn last_days() {
+    read_whole(b"standard", b"days since 1970-01-01", 2932896);
+    read_whole(b"standard", b"days since 1970-01-01", 2932897);
+    read_whole(b"360_day", b"days since 1970-01-01", 2890799);
+    read_whole(b"360_day", b"days since 1970-01-01", 2890800);
+}
+
+fn written_dates() {
+    write_date(
+        b"standard",
+        b"calendar months since 1930-01-31",
+        b"1930-02-28",
+    );
+    write_date(
+        b"standard",
+        b"calendar months since 1930-01-31",
+        b"1930-02-27",
+    );
+}
+
+fn refused_texts() {
+    read_whole(b"standard", b"days since 1582-10-05", 0);
+    read_whole(b"standard", b"ss since 1970", 0);
+    read_whole(b"standard", b"days since 1970-01-01Z", 0);
+}
+
+fn main() {
+    calendars();
+    periods();
+    last_days();
+    written_dates();
+    refused_texts();
+}
