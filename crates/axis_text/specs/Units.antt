@@ -1,16 +1,13 @@
 -- An axis read from a calendar name and a units text: document 01, "The units text" and "Numbers returned". A text is refused with
--- 1, 2, 3, 4, 5 in that order, and a refusal's axis is the zero axis.
+-- 1, 2, 3, 4, 5 in that order.
 use mathlib.Core.List.{List}
 use Prim.Native.Nat.{ℕ}
-use Rattle.refusal.specs.Number.{numberOf}
 use Rattle.calendar.specs.declared.Calendar.{Calendar}
 use Rattle.instant.specs.declared.InstantAnswer.{InstantAnswer}
 use Rattle.units_text.specs.declared.Units.{Units}
 use Rattle.units_text.specs.UnitsRule.{units}
 use Rattle.written_instant.specs.Instants.{writtenInstant}
 use Rattle.written_instant.specs.Texts.{readText}
-use Rattle.axis_record.specs.declared.Axis.{Axis}
-use Rattle.axis_record.specs.Axis.{zeroAxis}
 use Rattle.axis_text.specs.declared.AxisAnswer.{AxisAnswer}
 
 -- the axis of units in a calendar, where their reference is an instant
@@ -23,12 +20,3 @@ axisOf c u = axisAt c u (writtenInstant c (u .reference))
 
 unfoldable pub readUnits : List ℕ → List ℕ → AxisAnswer
 readUnits name text = readText AxisAnswer.Refused units axisOf name text
-
--- document 01's number and value of each answer
-abbrev pub axisNumber : AxisAnswer → ℕ
-axisNumber (AxisAnswer.Is a) = 0
-axisNumber (AxisAnswer.Refused r) = numberOf r
-
-abbrev pub axisValue : AxisAnswer → Axis
-axisValue (AxisAnswer.Is a) = a
-axisValue (AxisAnswer.Refused r) = zeroAxis

@@ -5,7 +5,6 @@ use Prim.Native.Nat.{ℕ, suc, _/_, _%_}
 use lib.Dec.{eqb}
 use lib.IntN.{ℤ, pos, negsuc, negℤ, _+ℤ_, _-ℤ_, _*ℤ_}
 use lib.Ieee.{Float, nan, inf, fin}
-use Rattle.refusal.specs.Number.{numberOf as refusalNumber}
 use Rattle.refusal.specs.declared.Refusal.the-variants.{OutOfRange, Inexact, NotFinite}
 use Rattle.calendar.specs.declared.Calendar.{Calendar}
 use Rattle.period.specs.Lengths.{lengthOf}
@@ -15,15 +14,6 @@ use Rattle.double.specs.Nearest.{distance}
 use Rattle.double.specs.Reading.{nearestCount}
 use Rattle.double.specs.declared.Reading.{Reading}
 use Rattle.fixed_axis.specs.declared.OffsetAnswer.{OffsetAnswer}
-
--- ---- document 01's number and value of each answer of writing
-abbrev pub numberOf : OffsetAnswer → ℕ
-numberOf (OffsetAnswer.Is n) = 0
-numberOf (OffsetAnswer.Refused r) = refusalNumber r
-
-abbrev pub offsetOf : OffsetAnswer → ℤ
-offsetOf (OffsetAnswer.Is n) = n
-offsetOf (OffsetAnswer.Refused r) = pos 0
 
 -- ---- reading
 

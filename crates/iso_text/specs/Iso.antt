@@ -4,7 +4,6 @@ use mathlib.Core.Bool.{Bool, true, false}
 use mathlib.Core.List.{List}
 use Prim.Native.Nat.{ℕ}
 use lib.IntN.{ℤ, pos, negsuc, natAbs}
-use Rattle.refusal.specs.Number.{numberOf}
 use Rattle.calendar.specs.declared.Calendar.{Calendar}
 use Rattle.instant.specs.Instant.{fieldsAnswer}
 use Rattle.instant.specs.declared.Fields.{Fields}
@@ -56,21 +55,3 @@ writeIso c t room = lengthOf (fieldsAnswer c t) room
 
 unfoldable pub roomIso : Calendar → ℤ → List ℕ → List ℕ
 roomIso c t room = roomOf (fieldsAnswer c t) room
-
--- ---- document 01's number and value of each answer
-
-abbrev pub instantNumber : InstantAnswer → ℕ
-instantNumber (InstantAnswer.Is t) = 0
-instantNumber (InstantAnswer.Refused r) = numberOf r
-
-abbrev pub instantValue : InstantAnswer → ℤ
-instantValue (InstantAnswer.Is t) = t
-instantValue (InstantAnswer.Refused r) = pos 0
-
-abbrev pub lengthNumber : LengthAnswer → ℕ
-lengthNumber (LengthAnswer.Is n) = 0
-lengthNumber (LengthAnswer.Refused r) = numberOf r
-
-abbrev pub lengthValue : LengthAnswer → ℕ
-lengthValue (LengthAnswer.Is n) = n
-lengthValue (LengthAnswer.Refused r) = 0

@@ -1,11 +1,11 @@
 -- The integer n - b, written `subℕ n b`: each law turns a fact on such integers into one on natural numbers, which `omega` reads.
 use mathlib.Core.Path.{_≡_, refl, sym, ap, _∙_}
 use mathlib.Core.Bool.{Bool, true, false, not, cond, true≢false}
-use Prim.Native.Nat.{ℕ, zero, suc, _+_, _-_, _*_, _<_, _≤_, _^_}
+use Prim.Native.Nat.{ℕ, zero, suc, _+_, _-_, _*_, _<_, _≤_}
 use native.Mathlib.Omega.{arith}
 use native.Mathlib.Nat.{add-mul}
 use lib.Dec.{leb, ltb}
-use lib.IntN.{ℤ, pos, negsuc, sucℤ, predℤ, subℕ, negℤ, _+ℤ_, _*ℤ_, pred-suc, pos-ne-negsuc, pos-*ℤ-pos, negsuc-*ℤ-pos}
+use lib.IntN.{ℤ, pos, negsuc, sucℤ, subℕ, negℤ, _+ℤ_, _*ℤ_, pos-ne-negsuc, pos-*ℤ-pos, negsuc-*ℤ-pos}
 use lib.Signed.{leZ, ltZ, mag}
 use mir.Syntax.{w64}
 use mir.Val.{SFits}
@@ -55,10 +55,6 @@ sub-inj m n b e = sym (lift-sub m b) ∙ (ap (λ (z : ℤ). lift z b) e ∙ lift
 pub lower-raise : (z : ℤ) → SFits w64 z → lower (raise z) ≡ z
 lower-raise z f = lift-is z 9223372036854775808 (λ e. omega (arith, f .sfits))
 
-pub raise-small : (z : ℤ) → SFits w64 z → raise z < 2 ^ 64
-raise-small (pos n) f = omega (arith, f .sfits)
-raise-small (negsuc n) f = omega arith
-
 -- ---- equal differences, neighbours, order
 
 pub same-diff : (a b c d : ℕ) → a + d ≡ c + b → subℕ a b ≡ subℕ c d
@@ -76,9 +72,6 @@ sub-suc n b =
     by-sign (λ (z : ℤ). sucℤ z ≡ subℕ (suc n) b) n b
     (λ h. suc-of (b - suc n) ∙ same-diff 0 (b - suc n) (suc n) b (omega arith))
     (λ h. ap pos (omega arith) ∙ sym (sub-high (suc n) b (omega arith)))
-
-pub sub-pred : (n b : ℕ) → predℤ (subℕ (suc n) b) ≡ subℕ n b
-sub-pred n b = ap predℤ (sym (sub-suc n b)) ∙ pred-suc (subℕ n b)
 
 pub sub-le : (m n b : ℕ) → leZ (subℕ m b) (subℕ n b) ≡ leb m n
 sub-le m n b =
@@ -126,8 +119,3 @@ times-plus a b d s =
     let e : a - b + b ≡ a = omega arith in
     let f : (a - b) * d + b * d ≡ a * d = sym (add-mul (a - b) b d) ∙ ap (λ (n : ℕ). n * d) e in
     ap (λ (z : ℤ). z +ℤ pos s) (pos-*ℤ-pos (a - b) d) ∙ (ap pos (omega arith) ∙ sym (sub-high (a * d + s) (b * d) (omega arith))))
-
--- ---- what fits 64 bits
-
-pub sub-fits : (n b : ℕ) → n < 2 ^ 63 → b < 2 ^ 63 → SFits w64 (subℕ n b)
-sub-fits n b p q = by-sign (λ (z : ℤ). SFits w64 z) n b (λ h. record { sfits = omega arith }) (λ h. record { sfits = omega arith })
