@@ -104,10 +104,8 @@ fn read_positive(s: &[u8]) -> OffsetText
 fn double_of(n: u64) -> f64
     ensures { λ x. ⌜ x ≡ ofBits binary64 n ⌝ }
 {
-    if n % 0x8000_0000_0000_0000 / 0x10_0000_0000_0000 == 2047 {
-        if n % 0x10_0000_0000_0000 != 0 {
-            return 0.0 / 0.0;
-        }
+    if 0x7ff0_0000_0000_0000 < n % 0x8000_0000_0000_0000 {
+        return 0.0 / 0.0;
     }
     return f64::from_bits(n);
 }
