@@ -114,7 +114,19 @@ fn one_digit(n: u32) -> [u8; 10]
 fn two_digits(n: u32) -> [u8; 11]
     ensures { λ r. ⌜ r ≡ bytesOf "refused " ++ two n ++ newline ⌝ }
 {
-    [114, 101, 102, 117, 115, 101, 100, 32, (n / 10 % 10) as u8 + 48, (n / 1 % 10) as u8 + 48, 10]
+    [
+        114,
+        101,
+        102,
+        117,
+        115,
+        101,
+        100,
+        32,
+        (n / 10 % 10) as u8 + 48,
+        (n / 1 % 10) as u8 + 48,
+        10,
+    ]
 }
 
 fn put_refused(r: Refusal, room: &mut [u8]) -> usize

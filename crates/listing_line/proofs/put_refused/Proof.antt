@@ -1,4 +1,11 @@
+-- `listing_line::put_refused` meets its contract.
 use borrow.Author.Needs.{needs}
+use Prim.Native.Nat.{ℕ}
+use mathlib.Core.Path.{ap, _∙_}
+use mathlib.Core.List.{List}
+use Rattle.iso_form.specs.Form.{over}
+use Rattle.listing_line.specs.Line.{lengthIn}
+use Rattle.listing_line.proofs.Answers.{one-digit-text, two-digit-text}
 use Rattle.listing_line.proofs.put_refused.Statement.{statement}
 use Rattle.listing_line.proofs.put_refused.Tie as tie
 
@@ -18,7 +25,13 @@ same-length : tie.Need-same-length
 same-length c = search needs
 
 returns : tie.Need-returns
-returns c = ?
+returns c =
+    let p = c .before .before in
+    let d = p .before .before .before in
+    let m = d .before .before in
+    let a = m .before .before .args in
+    let e = d .one-digit .ensures ∙ one-digit-text (a .r) (m .number .result) (m .number .ensures) (d .before .if1 .taken) in
+    (p .put .ensures .0 ∙ ap (λ (t : List ℕ). lengthIn t (a .room .now)) e, p .put .ensures .1 ∙ ap (λ (t : List ℕ). over t (a .room .now)) e)
 
 two-digits-requires : tie.Need-two-digits-requires
 two-digits-requires c κs = search needs
@@ -33,7 +46,13 @@ same-length-2 : tie.Need-same-length-2
 same-length-2 c = search needs
 
 returns-2 : tie.Need-returns-2
-returns-2 c = ?
+returns-2 c =
+    let p = c .before .before in
+    let d = p .before .before .before in
+    let m = d .before .before in
+    let a = m .before .before .args in
+    let e = d .two-digits .ensures ∙ two-digit-text (a .r) (m .number .result) (m .number .ensures) (d .before .if1 .left) in
+    (p .put2 .ensures .0 ∙ ap (λ (t : List ℕ). lengthIn t (a .room .now)) e, p .put2 .ensures .1 ∙ ap (λ (t : List ℕ). over t (a .room .now)) e)
 
 pub put-refused-spec : {M : Type 1} → statement M
 put-refused-spec =

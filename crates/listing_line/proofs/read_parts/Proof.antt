@@ -1,4 +1,8 @@
+-- `listing_line::read_parts` meets its contract.
 use borrow.Author.Needs.{needs}
+use mathlib.Core.Path.{sym, ap, _∙_}
+use Rattle.axis_text.specs.declared.AxisAnswer.{AxisAnswer}
+use Rattle.listing_line.specs.Line.{ofReading, onAxis}
 use Rattle.listing_line.proofs.read_parts.Statement.{statement}
 use Rattle.listing_line.proofs.read_parts.Tie as tie
 
@@ -9,7 +13,9 @@ enum-known-r : tie.Need-enum-known-r
 enum-known-r c = search needs
 
 returns : tie.Need-returns
-returns c = ?
+returns c =
+    let u = c .before .before .before in
+    ap (λ (x : AxisAnswer). onAxis x (u .before .before .before .args .offset)) (sym (c .before .r .given .1) ∙ u .read-units .ensures)
 
 enum-known-axis : tie.Need-enum-known-axis
 enum-known-axis c = search needs
@@ -21,7 +27,12 @@ of-reading-requires : tie.Need-of-reading-requires
 of-reading-requires c κs = search needs
 
 returns-2 : tie.Need-returns-2
-returns-2 c = ?
+returns-2 c =
+    let k = c .before .before in
+    let u = k .before .before .before in
+    let g = k .before .axis .given in
+    c .of-reading .ensures
+    ∙ (ap (ofReading (g .0 .0 .calendar)) (c .before .read .ensures) ∙ ap (λ (x : AxisAnswer). onAxis x (u .before .before .before .args .offset)) (sym (g .1) ∙ u .read-units .ensures))
 
 pub read-parts-spec : {M : Type 1} → statement M
 read-parts-spec =

@@ -1,7 +1,7 @@
 -- `offset_text::double_of` meets its contract: the patterns above that of infinity, without their sign, are those of NaNs.
 use borrow.Author.Needs.{needs}
-use mathlib.Core.Path.{_≡_, refl, sym, ap, subst, _∙_}
-use mathlib.Core.Bool.{true, false, not}
+use mathlib.Core.Path.{_≡_, refl, sym, _∙_}
+use mathlib.Core.Bool.{true, false}
 use lib.Dec.{T}
 use lib.Ieee.{Float, nan, inf, fin, binary64, isNan, nanBits, ofBits, ofFields, odd, div}
 use lib.Ieee.Bits.{nanBits-is, nanBits-above}
