@@ -1,0 +1,32 @@
+// Answers gathered in a buffer, which is written out when it has too little room for one more.
+ghost use Prim.Native.Nat.{_+_, _≤_};
+ghost use lib.ListN.{length};
+
+// Writes out the first bytes of the buffer.
+pub fn flush(out: &[u8], used: usize) {
+    let start: usize = 0;
+    let end = crate::least(used, out.len());
+    io::write_all(1, &out[start..end]);
+}
+
+// Where the next answer goes.
+fn place(out: &[u8], used: usize) -> usize
+    requires { ⌜ 64 ≤ length (now out) ⌝ }
+    ensures { λ r. ⌜ r + 64 ≤ length (now (out .entry)) ⌝ }
+{
+    if used <= out.len() - 64 {
+        return used;
+    }
+    flush(out, used);
+    0
+}
+
+// The answer to a gathered line. Answers how much of the buffer is used then.
+pub fn answer(line: &[u8], gathered: usize, out: &mut [u8], used: usize) -> usize
+    requires { ⌜ (64 ≤ length (now out)) × (gathered ≤ length (now line)) ⌝ }
+{
+    let start: usize = 0;
+    let at = place(out, used);
+    let n = listing_line::answer(&line[start..gathered], &mut out[at..]);
+    at + n
+}

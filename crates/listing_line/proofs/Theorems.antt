@@ -1,0 +1,142 @@
+-- What is proved of a line beyond its contract.
+--   shown-inside    an instant that a line shows lies in the years -9999 to 9999
+--   shown-fields    so it has fields, and these are the ones whose text is printed
+--   line-length     1 to 37 bytes are printed
+use Prim.Native.Nat.{ℕ, _+_, _≤_}
+use native.Mathlib.Omega.{arith}
+use mathlib.Core.Path.{_≡_, refl, _∙_}
+use mathlib.Core.Bool.{Bool, true, false, cond}
+use mathlib.Core.List.{List, [], _∷_, _++_, append-assoc}
+use mathlib.Core.Option.{Option, none, some}
+use lib.Dec.{leb, ltb}
+use lib.IntN.{ℤ}
+use lib.Ieee.{Float, nan, inf, fin}
+use lib.ListN.{length, length-append}
+use Rattle.grammar.specs.Reader.{read}
+use Rattle.grammar.specs.Rules.{bytes}
+use Rattle.refusal.specs.Number.{numberOf}
+use Rattle.refusal.specs.declared.Refusal.{Refusal}
+use Rattle.refusal.specs.declared.Refusal.the-variants.{TextTooLong, OutOfRange}
+use Rattle.calendar.specs.declared.Calendar.{Calendar}
+use Rattle.period.specs.declared.Period.{Period}
+use Rattle.period.specs.declared.Mode.{Mode}
+use Rattle.instant.specs.Instant.{inRange, fieldsAnswer}
+use Rattle.instant.specs.declared.FieldsAnswer.{FieldsAnswer}
+use Rattle.instant.proofs.Theorems.{fields-in}
+use Rattle.double.specs.Whole.{wholeOf}
+use Rattle.double.specs.declared.Reading.{Reading}
+use Rattle.double.specs.declared.whole.Whole.{Whole}
+use Rattle.fixed_axis.specs.Fixed.{readingAt, readFloat, readDouble}
+use Rattle.axis_record.specs.declared.Axis.{Axis}
+use Rattle.axis.specs.Axis.{stepOf, readStep, asWhole, doubleAsWhole, doubleIn, readWholeOn, readDoubleOn, readOffset}
+use Rattle.axis.specs.declared.Offset.{Offset}
+use Rattle.axis.proofs.Demands.{inverse}
+use Rattle.axis_text.specs.Units.{readUnits}
+use Rattle.axis_text.specs.declared.AxisAnswer.{AxisAnswer}
+use Rattle.iso_form.specs.Form.{two}
+use Rattle.iso_text.specs.Iso.{textOf}
+use Rattle.offset_text.specs.OffsetRule.{offset}
+use Rattle.listing_line.specs.declared.LineAnswer.{LineAnswer}
+use Rattle.listing_line.specs.Line.{parted, ofReading, onAxis, withOffset, ofParts, lineAnswer, shortNumber, refusedText, fieldsIn, rounded, newline, answerText, lineText}
+use Rattle.listing_line.proofs.Instants.{shown-length}
+
+-- ---- an offset is read as an instant of the range
+
+refused-at : {A : Type 0} {r : Refusal} {t : ℤ} {exact : Bool} → Reading.Refused r ≡ Reading.At t exact → A
+refused-at e = absurd (let z : _≡_ {A = ℕ} 0 1 = cc in omega arith)
+
+module _ (c : Calendar) (p : Period) (R t : ℤ) (exact : Bool) where
+  ranged : (z : ℤ) (e : Bool) → readingAt c z e ≡ Reading.At t exact → inRange c t ≡ true
+  ranged z e h = go (inRange c z) refl h
+    where
+      go : (b : Bool) → inRange c z ≡ b → cond b (Reading.At z e) (Reading.Refused OutOfRange) ≡ Reading.At t exact → inRange c t ≡ true
+      go true w x = let y : z ≡ t = cc in rw y at w
+      go false w x = refused-at x
+
+  fixed-inside : (x : Float) → readDouble c p R x ≡ Reading.At t exact → inRange c t ≡ true
+  unfolding readDouble
+  fixed-inside x h = go (inRange c R) x h
+    where
+      go : (b : Bool) (x : Float) → cond b (readFloat c p R x) (Reading.Refused OutOfRange) ≡ Reading.At t exact → inRange c t ≡ true
+      go true nan h = refused-at h
+      go true (inf s) h = refused-at h
+      go true (fin s m e) h = ranged _ _ h
+      go false x h = refused-at h
+
+  stepped-inside : (x : Float) → doubleAsWhole c p R x ≡ Reading.At t exact → inRange c t ≡ true
+  unfolding doubleAsWhole readWholeOn
+  stepped-inside x h = go (inRange c R) (wholeOf x) h
+    where
+      go : (b : Bool) (w : Whole) → cond b (asWhole w (readStep (stepOf p) c p R)) (Reading.Refused OutOfRange) ≡ Reading.At t exact → inRange c t ≡ true
+      go true (Whole.Is n) h = inverse (record { calendar = c; period = p; mode = Mode.Calendar; reference = R }) .read-inside n t exact h
+      go true (Whole.Refused r) h = refused-at h
+      go false w h = refused-at h
+
+  double-inside : (m : Mode) (x : Float) → doubleIn m c p R x ≡ Reading.At t exact → inRange c t ≡ true
+  double-inside Mode.Fixed x h = fixed-inside x h
+  double-inside Mode.Calendar x h = stepped-inside x h
+
+read-inside : (a : Axis) (o : Offset) (t : ℤ) (exact : Bool) → readOffset a o ≡ Reading.At t exact → inRange (a .calendar) t ≡ true
+unfolding readOffset readDoubleOn
+read-inside a (Offset.Whole n) t exact h = inverse a .read-inside n t exact h
+read-inside a (Offset.Double x) t exact h = double-inside (a .calendar) (a .period) (a .reference) t exact (a .mode) x h
+
+-- ---- a line shows an instant of the range
+
+module _ (c : Calendar) (t : ℤ) (exact : Bool) where
+  refused-shows : {A : Type 0} {r : Refusal} → LineAnswer.Refused r ≡ LineAnswer.Shows c t exact → A
+  refused-shows e = absurd (let z : _≡_ {A = ℕ} 0 1 = cc in omega arith)
+
+  of-reading : (d : Calendar) (r : Reading) → ((u : ℤ) (e : Bool) → r ≡ Reading.At u e → inRange d u ≡ true) → ofReading d r ≡ LineAnswer.Shows c t exact → inRange c t ≡ true
+  of-reading d (Reading.At u e) f h =
+      let p : c ≡ d = cc in
+      let q : t ≡ u = cc in
+      (λ i. inRange (p i) (q i)) ∙ f u e refl
+  of-reading d (Reading.Refused r) f h = refused-shows h
+
+  on-axis : (a : AxisAnswer) (o : Offset) → onAxis a o ≡ LineAnswer.Shows c t exact → inRange c t ≡ true
+  on-axis (AxisAnswer.Is a) o h = of-reading (a .calendar) (readOffset a o) (read-inside a o) h
+  on-axis (AxisAnswer.Refused r) o h = refused-shows h
+
+  with-offset : (name units : List ℕ) (o : Option Offset) → withOffset name units o ≡ LineAnswer.Shows c t exact → inRange c t ≡ true
+  with-offset name units (some o) h = on-axis (readUnits name units) o h
+  with-offset name units none h = refused-shows h
+
+  of-parts : (ps : List (List ℕ)) → ofParts ps ≡ LineAnswer.Shows c t exact → inRange c t ≡ true
+  of-parts (name ∷ units ∷ text ∷ []) h = with-offset name units (read offset text) h
+  of-parts [] h = refused-shows h
+  of-parts (name ∷ []) h = refused-shows h
+  of-parts (name ∷ units ∷ []) h = refused-shows h
+  of-parts (name ∷ units ∷ text ∷ more ∷ rest) h = refused-shows h
+
+  module _ (s : List ℕ) (shows : lineAnswer s ≡ LineAnswer.Shows c t exact) where
+    pub shown-inside : inRange c t ≡ true
+    unfolding lineAnswer
+    shown-inside = go (leb (length s) 255) shows
+      where
+        go : (b : Bool) → cond b (ofParts (parted s)) (LineAnswer.Refused TextTooLong) ≡ LineAnswer.Shows c t exact → inRange c t ≡ true
+        go true h = of-parts (parted s) h
+        go false h = refused-shows h
+
+    pub shown-fields : fieldsAnswer c t ≡ FieldsAnswer.Is (fieldsIn c t)
+    shown-fields = fields-in c t shown-inside
+
+-- ---- how much is printed
+
+number-length : (n : ℕ) → length (shortNumber n) ≤ 2
+number-length n = go (ltb n 10)
+  where
+    go : (b : Bool) → length (cond b ((n + 48) ∷ []) (two n)) ≤ 2
+    go true = omega arith
+    go false = omega arith
+
+printed-length : (a : LineAnswer) → length (answerText a ++ newline) ≤ 37
+printed-length (LineAnswer.Shows c t exact) = rw (append-assoc (textOf (fieldsIn c t)) (rounded exact) newline) (shown-length c t exact)
+printed-length (LineAnswer.Refused r) =
+    let l = length-append (refusedText r) newline in
+    let m = length-append (bytes "refused ") (shortNumber (numberOf r)) in
+    omega (arith, number-length (numberOf r))
+
+pub line-length : (s : List ℕ) → (1 ≤ length (lineText s)) × (length (lineText s) ≤ 37)
+unfolding lineText
+line-length s = let l = length-append (answerText (lineAnswer s)) newline in (omega arith, printed-length (lineAnswer s))

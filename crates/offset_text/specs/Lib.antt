@@ -1,0 +1,2 @@
+pub mod OffsetRule
+pub mod Closed
