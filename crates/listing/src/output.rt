@@ -21,12 +21,19 @@ fn place(out: &[u8], used: usize) -> usize
     0
 }
 
+// The answer to a line, at the front of the room.
+fn put(line: &[u8], room: &mut [u8]) -> usize
+    ensures { λ r. ⌜ r ≤ length (now (room .entry)) ⌝ }
+{
+    listing_line::answer(line, room)
+}
+
 // The answer to a gathered line. Answers how much of the buffer is used then.
 pub fn answer(line: &[u8], gathered: usize, out: &mut [u8], used: usize) -> usize
     requires { ⌜ (64 ≤ length (now out)) × (gathered ≤ length (now line)) ⌝ }
 {
     let start: usize = 0;
     let at = place(out, used);
-    let n = listing_line::answer(&line[start..gathered], &mut out[at..]);
+    let n = put(&line[start..gathered], &mut out[at..]);
     at + n
 }

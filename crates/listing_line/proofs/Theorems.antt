@@ -2,6 +2,7 @@
 --   shown-inside    an instant that a line shows lies in the years -9999 to 9999
 --   shown-fields    so it has fields, and these are the ones whose text is printed
 --   line-length     1 to 37 bytes are printed
+--   answer-within   an answer is no longer than the room
 use Prim.Native.Nat.{ℕ, _+_, _≤_}
 use native.Mathlib.Omega.{arith}
 use mathlib.Core.Path.{_≡_, refl, _∙_}
@@ -12,6 +13,7 @@ use lib.Dec.{leb, ltb}
 use lib.IntN.{ℤ}
 use lib.Ieee.{Float, nan, inf, fin}
 use lib.ListN.{length, length-append}
+use borrow.Author.Tests.{leb-true}
 use Rattle.grammar.specs.Reader.{read}
 use Rattle.grammar.specs.Rules.{bytes}
 use Rattle.refusal.specs.Number.{numberOf}
@@ -37,7 +39,7 @@ use Rattle.iso_form.specs.Form.{two}
 use Rattle.iso_text.specs.Iso.{textOf}
 use Rattle.offset_text.specs.OffsetRule.{offset}
 use Rattle.listing_line.specs.declared.LineAnswer.{LineAnswer}
-use Rattle.listing_line.specs.Line.{parted, ofReading, onAxis, withOffset, ofParts, lineAnswer, shortNumber, refusedText, fieldsIn, rounded, newline, answerText, lineText}
+use Rattle.listing_line.specs.Line.{parted, ofReading, onAxis, withOffset, ofParts, lineAnswer, shortNumber, refusedText, fieldsIn, rounded, newline, answerText, lineText, lengthIn}
 use Rattle.listing_line.proofs.Instants.{shown-length}
 
 -- ---- an offset is read as an instant of the range
@@ -140,3 +142,12 @@ printed-length (LineAnswer.Refused r) =
 pub line-length : (s : List ℕ) → (1 ≤ length (lineText s)) × (length (lineText s) ≤ 37)
 unfolding lineText
 line-length s = let l = length-append (answerText (lineAnswer s)) newline in (omega arith, printed-length (lineAnswer s))
+
+-- an answer is no longer than the room
+pub answer-within : (text room : List ℕ) → lengthIn text room ≤ length room
+unfolding lengthIn
+answer-within text room = go (leb (length text) (length room)) refl
+  where
+    go : (b : Bool) → leb (length text) (length room) ≡ b → cond b (length text) 0 ≤ length room
+    go true e = leb-true (length text) (length room) e
+    go false e = omega arith
