@@ -13,7 +13,7 @@ import sys
 
 ROOT = pathlib.Path(__file__).resolve().parent.parent
 CRATES = ROOT / "crates"
-TOPS = ["uppinalo", "listing", "cases"]
+TOPS = ["uppinalo", "listing_line", "listing", "cases"]
 CITED = re.compile(r"^(?:ghost )?use Rattle·(\w+)(?:·specs|·proofs)?\.(specs|proofs)\.([\w.]+?)\.?\{", re.MULTILINE)
 KIT = re.compile(r"^(?:ghost )?use ((?:lib|mathlib|Prim)\.[\w.]+?)\.\{", re.MULTILINE)
 

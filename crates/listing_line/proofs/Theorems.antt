@@ -1,15 +1,16 @@
 -- What is proved of a line beyond its contract.
 --   shown-inside    an instant that a line shows lies in the years -9999 to 9999
 --   shown-fields    so it has fields, and these are the ones whose text is printed
+--   one-more        a line has one text more than bars
 --   line-length     1 to 37 bytes are printed
 --   answer-within   an answer is no longer than the room
-use Prim.Native.Nat.{ℕ, _+_, _≤_}
+use Prim.Native.Nat.{ℕ, suc, _+_, _≤_}
 use native.Mathlib.Omega.{arith}
-use mathlib.Core.Path.{_≡_, refl, _∙_}
+use mathlib.Core.Path.{_≡_, refl, ap, _∙_}
 use mathlib.Core.Bool.{Bool, true, false, cond}
 use mathlib.Core.List.{List, [], _∷_, _++_, append-assoc}
 use mathlib.Core.Option.{Option, none, some}
-use lib.Dec.{leb, ltb}
+use lib.Dec.{leb, ltb, eqb}
 use lib.IntN.{ℤ}
 use lib.Ieee.{Float, nan, inf, fin}
 use lib.ListN.{length, length-append}
@@ -39,7 +40,7 @@ use Rattle.iso_form.specs.Form.{two}
 use Rattle.iso_text.specs.Iso.{textOf}
 use Rattle.offset_text.specs.OffsetRule.{offset}
 use Rattle.listing_line.specs.declared.LineAnswer.{LineAnswer}
-use Rattle.listing_line.specs.Line.{parted, ofReading, onAxis, withOffset, ofParts, lineAnswer, shortNumber, refusedText, fieldsIn, rounded, newline, answerText, lineText, lengthIn}
+use Rattle.listing_line.specs.Line.{onFirst, parted, ofReading, onAxis, withOffset, ofParts, lineAnswer, shortNumber, refusedText, fieldsIn, rounded, newline, answerText, lineText, lengthIn}
 use Rattle.listing_line.proofs.Instants.{shown-length}
 
 -- ---- an offset is read as an instant of the range
@@ -122,6 +123,22 @@ module _ (c : Calendar) (t : ℤ) (exact : Bool) where
 
     pub shown-fields : fieldsAnswer c t ≡ FieldsAnswer.Is (fieldsIn c t)
     shown-fields = fields-in c t shown-inside
+
+-- ---- the texts of a line
+
+abbrev pub bars : List ℕ → ℕ
+bars [] = 0
+bars (b ∷ s) = cond (eqb b 124) (suc (bars s)) (bars s)
+
+pub one-more : (s : List ℕ) → length (parted s) ≡ suc (bars s)
+unfolding parted
+one-more [] = refl
+one-more (b ∷ s) = go (eqb b 124) (parted s) (one-more s)
+  where
+    go : (t : Bool) (ps : List (List ℕ)) → length ps ≡ suc (bars s) → length (cond t ([] ∷ ps) (onFirst b ps)) ≡ suc (cond t (suc (bars s)) (bars s))
+    go true ps e = ap suc e
+    go false [] e = absurd (omega arith)
+    go false (p ∷ ps) e = e
 
 -- ---- how much is printed
 

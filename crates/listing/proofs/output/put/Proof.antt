@@ -1,3 +1,7 @@
+-- `listing::output::put` meets its contract.
+use native.Mathlib.Omega.{arith}
+use Rattle.listing_line.specs.Line.{lineText}
+use Rattle.listing_line.proofs.Theorems.{answer-within}
 use borrow.Author.Needs.{needs}
 use Rattle.listing.proofs.output.put.Statement.{statement}
 use Rattle.listing.proofs.output.put.Tie as tie
@@ -9,7 +13,11 @@ same-length : tie.Need-same-length
 same-length c = search needs
 
 returns : tie.Need-returns
-returns c = ?
+returns c =
+    let start = c .before .before .before .before .before .before in
+    let lent = start .args .room .now in
+    let within = answer-within (lineText (start .args .line .now)) lent in
+    omega (arith, c .before .before .answer .ensures .0)
 
 pub put-spec : {M : Type 1} → statement M
 put-spec = tie.close (tie.spec answer-requires same-length returns)
