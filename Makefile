@@ -1,5 +1,13 @@
 # What is done beside `rt`. `make test` is the gate.
-.PHONY: test hosts compare faults fuzz peers bench docs lib clean
+.PHONY: demo test hosts compare faults fuzz peers bench docs lib clean
+
+demo:     # prove and build the program `listing`, and run it on an example
+	@mkdir -p target
+	@echo 'proving listing and what it is made of (some minutes the first time) ...'
+	@rt check listing >target/demo.log 2>&1 || { cat target/demo.log && exit 1; }
+	@tail -n 1 target/demo.log
+	@echo '$$ cat crates/listing/stdin' && cat crates/listing/stdin
+	@echo '$$ target/bin/listing < crates/listing/stdin' && target/bin/listing < crates/listing/stdin
 
 test:     # the gate: every proof, every must-fail edit, the programs and the tests from other languages
 	bash .ci/run
