@@ -10,6 +10,7 @@ use double::Reading;
 use refusal::Refusal;
 
 pub mod each;
+pub mod ends;
 
 // Whether every offset of a run is read, or the first refusal and its place, counted from 0.
 pub enum Check {
@@ -64,7 +65,7 @@ fn check_doubles(axis: Axis, source: &[f64], room: usize) -> Check
                 place: 0,
             };
         }
-        return each::check_doubles(axis, source);
+        return ends::check_doubles(axis, source);
     }
     return Check::Refused {
         refusal: Refusal::OutOfRange,
