@@ -1,7 +1,7 @@
 // A run checked by its ends: where the least and the greatest offset are read, every offset between them is.
 ghost use mathlib.Core.Path.{_≡_};
 ghost use mathlib.Core.Bool.{true, _&&_};
-ghost use Rattle.axis.specs.Axis.{readDoubleOn};
+ghost use Rattle.axis.specs.Axis.{readDoubleOn, readWholeOn};
 ghost use Rattle.runs.specs.Run.{isRead, checked};
 ghost use Rattle.runs.specs.declared.Check.{Check};
 use crate::Check;
@@ -20,7 +20,7 @@ fn is_read(r: Reading) -> bool
     }
 }
 
-fn both_read(axis: Axis, a: f64, b: f64) -> bool
+fn both_doubles_read(axis: Axis, a: f64, b: f64) -> bool
     ensures { λ r. ⌜ r ≡ (isRead (readDoubleOn axis a) && isRead (readDoubleOn axis b)) ⌝ }
 {
     if is_read(axis::read_double(axis, a)) {
@@ -38,7 +38,7 @@ fn doubles_read(axis: Axis, source: &[f64]) -> bool
         Mode::Calendar => return false,
         Mode::Fixed => match span::of_doubles(source) {
             Doubles::NotANumber => return false,
-            Doubles::Between { least, greatest } => return both_read(axis, least, greatest),
+            Doubles::Between { least, greatest } => return both_doubles_read(axis, least, greatest),
         },
     }
 }
@@ -51,4 +51,31 @@ pub fn check_doubles(axis: Axis, source: &[f64]) -> Check
         return Check::AllRead;
     }
     return each::check_doubles(axis, source);
+}
+
+fn both_wholes_read(axis: Axis, a: i64, b: i64) -> bool
+    ensures { λ r. ⌜ r ≡ (isRead (readWholeOn axis a) && isRead (readWholeOn axis b)) ⌝ }
+{
+    if is_read(axis::read_whole(axis, a)) {
+        return is_read(axis::read_whole(axis, b));
+    }
+    return false;
+}
+
+// Whether the ends show that every whole offset is read.
+fn wholes_read(axis: Axis, source: &[i64]) -> bool
+    ensures { λ b. ⌜ (b ≡ true → checked (readWholeOn axis) (now (source .entry)) ≡ Check.AllRead) ⌝ }
+{
+    let ends = span::of_wholes(source);
+    both_wholes_read(axis, ends.least, ends.greatest)
+}
+
+// The first refused offset, as of doubles.
+pub fn check_wholes(axis: Axis, source: &[i64]) -> Check
+    ensures { λ r. ⌜ r ≡ checked (readWholeOn axis) (now (source .entry)) ⌝ }
+{
+    if wholes_read(axis, source) {
+        return Check::AllRead;
+    }
+    return each::check_wholes(axis, source);
 }

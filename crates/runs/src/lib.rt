@@ -110,7 +110,7 @@ fn check_wholes(axis: Axis, source: &[i64], room: usize) -> Check
                 place: 0,
             };
         }
-        return each::check_wholes(axis, source);
+        return ends::check_wholes(axis, source);
     }
     return Check::Refused {
         refusal: Refusal::OutOfRange,

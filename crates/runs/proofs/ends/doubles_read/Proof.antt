@@ -27,15 +27,15 @@ returns-2 c = λ h. absurd (false≢true h)
 enum-known-least : tie.Need-enum-known-least
 enum-known-least c = search needs
 
-both-read-requires : tie.Need-both-read-requires
-both-read-requires c κs = search needs
+both-doubles-read-requires : tie.Need-both-doubles-read-requires
+both-doubles-read-requires c κs = search needs
 
 returns-3 : tie.Need-returns-3
 returns-3 c =
     let l = c .before .before in
     let f = l .before .before .before in
     let s = f .before .before .before in
-    λ h. doubles-by-ends (s .args .axis) (s .args .source .now) (l .least .given .0 .0) (l .least .given .0 .1 .0) (f .enum-told2 .given .1) (sym (l .before .before .of-doubles .ensures) ∙ l .least .given .1) (sym (c .both-read .ensures) ∙ h)
+    λ h. doubles-by-ends (s .args .axis) (s .args .source .now) (l .least .given .0 .0) (l .least .given .0 .1 .0) (f .enum-told2 .given .1) (sym (l .before .before .of-doubles .ensures) ∙ l .least .given .1) (sym (c .both-doubles-read .ensures) ∙ h)
 
 pub doubles-read-spec : {M : Type 1} → statement M
 doubles-read-spec =
@@ -48,5 +48,5 @@ doubles-read-spec =
     enum-told-3
     returns-2
     enum-known-least
-    both-read-requires
+    both-doubles-read-requires
     returns-3)

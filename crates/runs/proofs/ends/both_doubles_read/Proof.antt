@@ -1,11 +1,11 @@
--- `runs::ends::both_read` meets its contract: by the test of the first end.
+-- `runs::ends::both_doubles_read` meets its contract: by the test of the first end.
 use mathlib.Core.Path.{_≡_, sym, ap, _∙_}
 use mathlib.Core.Bool.{Bool, _&&_}
 use Rattle.axis.specs.Axis.{readDoubleOn}
 use Rattle.runs.specs.Run.{isRead}
 use borrow.Author.Needs.{needs}
-use Rattle.runs.proofs.ends.both_read.Statement.{statement}
-use Rattle.runs.proofs.ends.both_read.Tie as tie
+use Rattle.runs.proofs.ends.both_doubles_read.Statement.{statement}
+use Rattle.runs.proofs.ends.both_doubles_read.Tie as tie
 
 -- the first end, once it is settled
 first : (r : tie.After-is-read) → let s = r .before .before in (b : Bool) → r .is-read .result ≡ b → isRead (readDoubleOn (s .args .axis) (s .args .a)) ≡ b
@@ -35,8 +35,8 @@ returns-2 c =
     let s = c .before .before .before in
     ap (λ (b : Bool). b && isRead (readDoubleOn (s .args .axis) (s .args .b))) (sym (first (c .before) _ (c .if1 .left)))
 
-pub both-read-spec : {M : Type 1} → statement M
-both-read-spec =
+pub both-doubles-read-spec : {M : Type 1} → statement M
+both-doubles-read-spec =
     tie.close
     (tie.spec
     read-double-requires
