@@ -1,6 +1,6 @@
 -- A run checked by its ends: an offset between two that are read is read, so a run whose least and greatest offset are read is read whole.
 use mathlib.Core.Path.{_≡_, refl, sym, ap, _∙_}
-use mathlib.Core.Bool.{Bool, true, false, _&&_, false≢true}
+use mathlib.Core.Bool.{Bool, true, _&&_}
 use mathlib.Core.List.{List, [], _∷_}
 use lib.Dec.{T}
 use lib.IntN.{ℤ}
@@ -20,10 +20,7 @@ use Rattle.span.specs.declared.Doubles.{Doubles}
 use Rattle.span.proofs.Within.{doubles-within, wholes-within}
 use Rattle.runs.specs.declared.Check.{Check}
 use Rattle.runs.specs.Run.{isRead, after, checked}
-
-was-read : (r : Reading) → isRead r ≡ true → (z : ℤ) × (exact : Bool) × (r ≡ Reading.At z exact)
-was-read (Reading.At z exact) h = (z, exact, refl)
-was-read (Reading.Refused r) h = absurd (false≢true h)
+use Rattle.runs.proofs.Passes.{was-read}
 
 -- `between` says that an offset between two that are read is read
 module _ {A : Type 0} (read : A → Reading) (AtMost : A → A → Type 0) (between : (x y z : A) (t u : ℤ) (i j : Bool) → AtMost x y → AtMost y z → read x ≡ Reading.At t i → read z ≡ Reading.At u j → isRead (read y) ≡ true) (a b : A) (h : (isRead (read a) && isRead (read b)) ≡ true) where
