@@ -1,6 +1,8 @@
 -- The theorems about offsets on any axis, over the definitions that the public calls are proved to compute.
 --   inverse         writing undoes reading, on every axis: what is written reads as the instant; what reads as an instant is written; Inexact where no 64-bit offset reads as it; the reference before all else
 --   inexact-none    Inexact only where no offset reads as the instant
+--   whole-exact     a whole offset that is read is exact
+--   on-step         whole offsets move the time, the month or the year, by the axis's mode and period
 --   one-offset      two offsets never read as the same instant
 --   month-moved, year-moved    in calendar mode the date of the instant is that of the reference, moved at once by all the steps, and the time of day is kept
 --   fixed-double    a double on an axis of fixed mode is read as crate `fixed_axis` reads it, whose proofs/Demands.antt has demand 3
@@ -28,7 +30,7 @@ use Rattle.fixed_axis.specs.Fixed.{readWhole, readDouble, writeInstant}
 use Rattle.fixed_axis.specs.declared.OffsetAnswer.{OffsetAnswer}
 use Rattle.fixed_axis.proofs.Offsets.{read-of}
 use Rattle.fixed_axis.proofs.Demands as Fixed
-use Rattle.axis.specs.Axis.{stepOf, dateAt, readStep, writeStep, asWhole, doubleAsWhole, wholeIn, doubleIn, writeIn, readWholeOn, readDoubleOn, writeInstantOn}
+use Rattle.axis.specs.Axis.{stepOf, stepIn, stepOn, dateAt, readStep, writeStep, asWhole, doubleAsWhole, wholeIn, doubleIn, writeIn, readWholeOn, readDoubleOn, writeInstantOn}
 use Rattle.axis.specs.Demands.{Inverse}
 use Rattle.axis_record.specs.declared.Axis.{Axis}
 use Rattle.axis.specs.declared.Step.{Step}
@@ -62,9 +64,21 @@ module _ (c : Calendar) (p : Period) (R : ℤ) where
 
 -- ---- whole offsets
 module _ (a : Axis) where
+  pub on-step : (n : ℤ) → readWholeOn a n ≡ readStep (stepOn a) (a .calendar) (a .period) (a .reference) n
+  unfolding readWholeOn
+  on-step n = go (a .mode)
+    where
+      go : (m : Mode) → wholeIn m (a .calendar) (a .period) (a .reference) n ≡ readStep (stepIn m (a .period)) (a .calendar) (a .period) (a .reference) n
+      go Mode.Fixed = refl
+      go Mode.Calendar = refl
+
   pub inverse : Inverse (a .calendar) (a .reference) (readWholeOn a) (writeInstantOn a)
   unfolding readWholeOn writeInstantOn
   inverse = by-mode (a .calendar) (a .period) (a .reference) (a .mode)
+
+  -- a whole offset that is read is exact
+  pub whole-exact : (n t : ℤ) (exact : Bool) → readWholeOn a n ≡ Reading.At t exact → exact ≡ true
+  whole-exact n t exact h = let e = inverse .written-reads t n (inverse .read-writes n t exact h) in cc
 
   pub inexact-none : (t : ℤ) → writeInstantOn a t ≡ OffsetAnswer.Refused Inexact → (n : ℤ) (exact : Bool) → readWholeOn a n ≡ Reading.At t exact → ⊥
   inexact-none t h n exact g = let e = inverse .read-writes n t exact g in let k : _≡_ {A = ℕ} 0 1 = cc in omega arith

@@ -1,3 +1,4 @@
 pub mod Moving
 pub mod Stepping
+pub mod Between
 pub mod Demands

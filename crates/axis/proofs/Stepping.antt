@@ -5,7 +5,7 @@ use Prim.Native.Nat.{ℕ, zero, suc, _+_, _≤_}
 use native.Mathlib.Omega.{arith}
 use lib.Dec.{eqb}
 use lib.IntN.{ℤ, pos, negsuc, sucℤ, _+ℤ_, _*ℤ_}
-use lib.Signed.{mag}
+use lib.Signed.{mag, ltZ}
 use mir.Syntax.{w64}
 use mir.Val.{SFits}
 use borrow.Author.Tests.{eq-eqb, eqb-true}
@@ -19,6 +19,7 @@ use Rattle.calendar.specs.declared.Calendar.{Calendar}
 use Rattle.calendar.specs.declared.Date.{Date}
 use Rattle.calendar.specs.declared.DayAnswer.{DayAnswer}
 use Rattle.calendar.proofs.Answering.{date-there}
+use Rattle.calendar.proofs.Ordered.{Before}
 use Rattle.calendar.proofs.Theorems.{dates-exist, answered}
 use Rattle.instant.specs.Instant.{dayOf, timeOf, inRange}
 use Rattle.instant.proofs.Theorems.{day-of-sum, time-of-sum, time-small, day-and-time}
@@ -26,6 +27,7 @@ use Rattle.double.specs.declared.Reading.{Reading}
 use Rattle.step.specs.Months.{monthsAfter, yearsAfter}
 use Rattle.step.specs.Answers.{pickStep, searched, numberAt, stepFrom, monthsBetween, yearsBetween}
 use Rattle.step.specs.declared.StepAnswer.{StepAnswer}
+use Rattle.step.proofs.Order.{months-before, years-before}
 use Rattle.step.proofs.Theorems as Theorems
 use Rattle.fixed_axis.specs.declared.OffsetAnswer.{OffsetAnswer}
 use Rattle.axis.specs.Axis.{dateAt, onDay, readMoved, offsetFrom, writeMoved}
@@ -63,6 +65,7 @@ pub record Stepping (c : Calendar) (moved : ℤ → Date → Date) (between : Da
   pub found : (x d : Date) → Dated c x → Dated c d → (n : ℤ) → moved n x ≡ d → between x d ≡ StepAnswer.Is n
   pub none : (x d : Date) → Dated c x → Dated c d → ((n : ℤ) → moved n x ≡ d → ⊥) → between x d ≡ StepAnswer.Nothing
   pub there : (x : Date) → exists c x ≡ true → (n : ℤ) → exists c (moved n x) ≡ true
+  pub rise : (x : Date) (n m : ℤ) → ltZ n m ≡ true → Before (moved n x) (moved m x)
 
 pub months : (c : Calendar) → Stepping c (monthsAfter c) (monthsBetween c)
 unfolding monthsBetween
@@ -73,6 +76,7 @@ months c =
       found = λ x d p q. Theorems.is-months-between c x d (p .inside) (p .there) (q .inside) (q .there);
       none = λ x d p q. Theorems.nothing-months-between c x d (p .inside) (p .there) (q .inside) (q .there);
       there = Theorems.months-exist c;
+      rise = months-before c;
     }
 
 pub years : (c : Calendar) → Stepping c (yearsAfter c) (yearsBetween c)
@@ -84,6 +88,7 @@ years c =
       found = λ x d p q. Theorems.is-years-between c x d (p .inside) (p .there) (q .inside) (q .there);
       none = λ x d p q. Theorems.nothing-years-between c x d (p .inside) (p .there) (q .inside) (q .there);
       there = Theorems.years-exist c;
+      rise = years-before c;
     }
 
 -- the date of an instant of the range

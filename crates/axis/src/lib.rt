@@ -5,7 +5,7 @@ ghost use mathlib.Core.Bool.{true};
 ghost use Rattle.instant.specs.Instant.{isClock, clockTime, dateIn};
 ghost use Rattle.step.specs.Months.{monthsAfter, yearsAfter};
 ghost use Rattle.step.specs.Answers.{monthsBetween, yearsBetween};
-ghost use Rattle.axis.specs.Axis.{stepOf, onDate, readMoved, writeMoved, offsetFrom, readStep, writeStep, doubleAsWhole, readWholeOn, readDoubleOn, readOffset, writeInstantOn, writeFieldsOn};
+ghost use Rattle.axis.specs.Axis.{stepOf, stepOn, onDate, readMoved, writeMoved, offsetFrom, readStep, writeStep, doubleAsWhole, readWholeOn, readDoubleOn, readOffset, writeInstantOn, writeFieldsOn};
 use axis_record::Axis;
 use calendar::Calendar;
 use calendar::Date;
@@ -45,6 +45,18 @@ fn step_of(p: Period) -> Step
         Period::Week => return Step::Time,
         Period::Month => return Step::Months,
         Period::Year => return Step::Years,
+    }
+}
+
+// What whole offsets move on an axis.
+pub fn step_on(axis: Axis) -> Step
+    ensures { λ s. ⌜ s ≡ stepOn axis ⌝ }
+{
+    let p = axis.period;
+    let mode = axis.mode;
+    match mode {
+        Mode::Fixed => return Step::Time,
+        Mode::Calendar => return step_of(p),
     }
 }
 

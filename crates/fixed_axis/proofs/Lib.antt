@@ -5,4 +5,5 @@ pub mod Joined
 pub mod Writing
 pub mod Dates
 pub mod Offsets
+pub mod Between
 pub mod Demands

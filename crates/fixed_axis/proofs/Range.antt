@@ -19,7 +19,7 @@ use Rattle.period.specs.declared.Period.the-variants.{Second, Millisecond, Minu
 use Rattle.instant.specs.Instant.{dayOf, inRange}
 use Rattle.double.specs.Reading.{Bounds}
 use Rattle.double.specs.Reading.{inRange as between}
-use Rattle.fixed_axis.specs.Closed.{firstInstant, lastInstant, reachOf}
+use Rattle.fixed_axis.specs.Closed.{firstInstant, lastInstant, reachOf, Near}
 
 -- the day of an instant is at most h where the instant is at most the last microsecond of day h
 day-test : (n h : ℕ) → leb (n / 86400000000) h ≡ leb n (h * 86400000000 + 86399999999)
@@ -64,10 +64,6 @@ small Julian = (lit< tt, lit< tt)
 small NoLeap = (lit< tt, lit< tt)
 small AllLeap = (lit< tt, lit< tt)
 small Day360 = (lit< tt, lit< tt)
-
-pub record Near (k : ℕ) : Type 0 where
-  pub low : 8646911284551352320 < k
-  pub high : k < 9799832789158199296
 
 pub near : (c : Calendar) (k : ℕ) → inRange c (lower k) ≡ true → Near k
 near c k h =

@@ -1,7 +1,8 @@
 -- A whole offset read in natural numbers: the reference r and the offset k are raised by 2^63, P is the period, and L periods lead out of the range.
 use mathlib.Core.Path.{_≡_, sym, ap, _∙_}
-use mathlib.Core.Bool.{Bool, true, false, cond}
+use mathlib.Core.Bool.{Bool, true, false, cond, true≢false}
 use Prim.Native.Nat.{ℕ, suc, _+_, _-_, _*_, _<_, _≤_}
+use native.Mathlib.Decide.{decLt}
 use native.Mathlib.Omega.{arith}
 use native.Mathlib.Nat.{le-trans, le-of-eq, add-mul, mul-le-mul-right}
 use lib.IntN.{ℤ, pos, subℕ, _+ℤ_, _*ℤ_}
@@ -13,7 +14,8 @@ use Rattle.instant.specs.Instant.{inRange}
 use Rattle.instant.proofs.Days.{far-before, far-after}
 use Rattle.double.specs.declared.Reading.{Reading}
 use Rattle.fixed_axis.specs.Fixed.{readingAt}
-use Rattle.fixed_axis.proofs.Range.{Near, Sized}
+use Rattle.fixed_axis.specs.Closed.{Near}
+use Rattle.fixed_axis.proofs.Range.{Sized}
 use Rattle.fixed_axis.proofs.Sums.{sub-plus, sub-times}
 
 -- ---- the answer, once the test is settled
@@ -83,3 +85,7 @@ module _ (r k P L : ℕ) (N : Near r) (S : Sized P L) where
       let e = le-trans (le-of-eq (sym (add-mul k L P))) (mul-le-mul-right {m = k + L} {n = bias} P (omega arith)) in
       let w = under (r + k * P) (bias + bias * P) (below r (k * P) (L * P) (bias * P) (N .high) (S .far) e) in
       ap (inRange c) (time-raised r k P ∙ sub-low (r + k * P) (bias + bias * P) (w .0)) ∙ far-before c (bias + bias * P - suc (r + k * P)) (w .1)
+
+  -- an offset that is read is not so far
+  pub within-reach : (c : Calendar) → inRange c (lower r +ℤ lower k *ℤ pos P) ≡ true → (bias - L ≤ k) × (k < bias + L)
+  within-reach c h = (elim (decLt k (bias - L)) [ yes l ↦ absurd (true≢false (sym h ∙ too-early c l)) | no l ↦ omega arith ], elim (decLt k (bias + L)) [ yes l ↦ l | no l ↦ absurd (true≢false (sym h ∙ too-late c (omega arith))) ])

@@ -1,5 +1,5 @@
 -- Closed forms, which only private functions compute; no promise to a caller rests on them. proofs/Range.antt joins them to the calendars.
-use Prim.Native.Nat.{ℕ, _+_, _-_}
+use Prim.Native.Nat.{ℕ, _+_, _-_, _≤_, _<_}
 use Rattle.calendar.specs.declared.Calendar.{Calendar}
 use Rattle.calendar.specs.declared.Calendar.the-variants.{Standard, ProlepticGregorian, Julian, NoLeap, AllLeap, Day360}
 use Rattle.period.specs.declared.Period.{Period}
@@ -32,3 +32,13 @@ reachOf Day = 26687997
 reachOf Week = 3812571
 reachOf Month = 876831
 reachOf Year = 73069
+
+-- a reference within 2^59 microseconds of 1970, and an offset that does not lead out of the range for its size alone, both raised by 2^63
+pub record Near (r : ℕ) : Type 0 where
+  pub low : 8646911284551352320 < r
+  pub high : r < 9799832789158199296
+
+pub record Reached (p : Period) (r k : ℕ) : Type 0 where
+  pub reference : Near r
+  pub from : 9223372036854775808 - reachOf p ≤ k
+  pub to : k < 9223372036854775808 + reachOf p

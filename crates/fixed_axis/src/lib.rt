@@ -7,7 +7,8 @@ ghost use Rattle.signed.specs.Bias.{lower};
 ghost use Rattle.period.specs.Lengths.{lengthOf};
 ghost use Rattle.instant.specs.Instant.{inRange};
 ghost use Rattle.fixed_axis.specs.Fixed.{timeAfter, readingAt, readWhole, readDouble, inPeriods, writeInstant};
-ghost use Rattle.fixed_axis.specs.Closed.{firstInstant, lastInstant, reachOf};
+ghost use Rattle.fixed_axis.specs.Closed.{firstInstant, lastInstant, reachOf, Reached};
+ghost use Rattle.double.specs.declared.Reading.{Reading};
 use calendar::Calendar;
 use double::Reading;
 use period::Period;
@@ -47,6 +48,19 @@ fn last_instant(c: Calendar) -> u64
     }
 }
 
+// The ends of the range as they are.
+pub fn range_start(c: Calendar) -> i64
+    ensures { λ t. ⌜ t ≡ lower (firstInstant c) ⌝ }
+{
+    signed::unbiased(first_instant(c))
+}
+
+pub fn range_end(c: Calendar) -> i64
+    ensures { λ t. ⌜ t ≡ lower (lastInstant c) ⌝ }
+{
+    signed::unbiased(last_instant(c))
+}
+
 // Whether the instant k - 2^63 lies in the years -9999 to 9999.
 pub fn in_range(c: Calendar, k: u64) -> bool
     ensures { λ b. ⌜ b ≡ inRange c (lower k) ⌝ }
@@ -73,6 +87,16 @@ fn reach(p: Period) -> u64
     }
 }
 
+// The time of the offset k - 2^63 from the reference r - 2^63, raised by 2^63.
+fn time_raised(p: Period, r: u64, k: u64) -> u64
+    requires { ⌜ Reached p r k ⌝ }
+    ensures { λ at. ⌜ lower at ≡ timeAfter p (lower r) (lower k) ⌝ }
+{
+    let most = reach(p);
+    let micros = period::microseconds(p);
+    r + (k - (0x8000_0000_0000_0000 - most)) * micros - most * micros
+}
+
 // The reading of the offset k - 2^63 from the reference r - 2^63.
 fn read_biased(c: Calendar, p: Period, r: u64, k: u64) -> Reading
     requires { ⌜ inRange c (lower r) ≡ true ⌝ }
@@ -85,8 +109,7 @@ fn read_biased(c: Calendar, p: Period, r: u64, k: u64) -> Reading
     if 0x8000_0000_0000_0000 + most <= k {
         return Reading::Refused(Refusal::OutOfRange);
     }
-    let micros = period::microseconds(p);
-    let at = r + (k - (0x8000_0000_0000_0000 - most)) * micros - most * micros;
+    let at = time_raised(p, r, k);
     if in_range(c, at) {
         return Reading::At(signed::unbiased(at), true);
     }
@@ -104,13 +127,19 @@ pub fn read_whole(c: Calendar, p: Period, reference: i64, n: i64) -> Reading
     return Reading::Refused(Refusal::OutOfRange);
 }
 
+// The instant of a whole offset that is known to be read: no test is left.
+pub fn time_after(c: Calendar, p: Period, reference: i64, n: i64) -> i64
+    requires { ⌜ readWhole c p reference n ≡ Reading.At (timeAfter p reference n) true ⌝ }
+    ensures { λ t. ⌜ t ≡ timeAfter p reference n ⌝ }
+{
+    signed::unbiased(time_raised(p, signed::biased(reference), signed::biased(n)))
+}
+
 // A double; OutOfRange for the reference, then NotFinite, then OutOfRange for the nearest count.
 pub fn read_double(c: Calendar, p: Period, reference: i64, x: f64) -> Reading
     ensures { λ a. ⌜ a ≡ readDouble c p reference x ⌝ }
 {
-    let first = signed::unbiased(first_instant(c));
-    let last = signed::unbiased(last_instant(c));
-    double::read_double(first, last, reference, period::microseconds(p), x)
+    double::read_double(range_start(c), range_end(c), reference, period::microseconds(p), x)
 }
 
 // The displacement of the instant k - 2^63 from the reference r - 2^63, in periods; Inexact where something is left over.

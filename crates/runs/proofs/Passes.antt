@@ -1,6 +1,6 @@
 -- The two passes over a run, one offset more at a time. The offsets are of any kind and `read` is any reading.
 use mathlib.Core.Path.{_≡_, refl, sym, ap, _∙_}
-use mathlib.Core.Bool.{Bool, true, false, cond}
+use mathlib.Core.Bool.{Bool, true, false, cond, false≢true}
 use mathlib.Core.List.{List, [], _∷_, _++_, map}
 use Prim.Native.Nat.{ℕ, zero, suc, _+_, _≤_, _<_}
 use native.Mathlib.Nat.{not-suc-le-zero, le-of-suc-le-suc}
@@ -16,7 +16,7 @@ use Rattle.refusal.specs.declared.Refusal.the-variants.{OutOfRange, NoRoom}
 use Rattle.double.specs.Reading.{instantOf}
 use Rattle.double.specs.declared.Reading.{Reading}
 use Rattle.runs.specs.declared.Check.{Check}
-use Rattle.runs.specs.Run.{markOf, after, checked, rounded, overlaid, runCheck}
+use Rattle.runs.specs.Run.{markOf, isRead, after, checked, rounded, overlaid, runCheck}
 
 -- the check of a run whose first i offsets are read
 abbrev pub from : ℕ → Check → Check
@@ -62,6 +62,27 @@ module _ {A : Type 0} (read : A → Reading) (xs : List A) where
   unfolding checked
   checking-ends i k h = sym (k .so-far ∙ ap (λ (l : List A). from i (checked read l)) (drop-of-length-le xs h))
 
+-- ---- what is read
+pub was-read : (r : Reading) → isRead r ≡ true → (z : ℤ) × (exact : Bool) × (r ≡ Reading.At z exact)
+was-read (Reading.At z exact) h = (z, exact, refl)
+was-read (Reading.Refused r) h = absurd (false≢true h)
+
+-- where every offset is read, the one at each place is
+pub read-at : {A : Type 0} (read : A → Reading) (d : A) (xs : List A) (i : ℕ) → checked read xs ≡ Check.AllRead → i < length xs → isRead (read (getD xs i d)) ≡ true
+unfolding checked
+read-at read d [] i e h = absurd (not-suc-le-zero h)
+read-at read d (x ∷ xs) zero e h = first (read x) (checked read xs) e
+  where
+    first : (r : Reading) (s : Check) → after r s ≡ Check.AllRead → isRead r ≡ true
+    first (Reading.At z exact) s e = refl
+    first (Reading.Refused r) s e = absurd (let k : _≡_ {A = ℕ} 0 1 = cc in omega arith)
+read-at read d (x ∷ xs) (suc i) e h = read-at read d xs i (rest (read x) (checked read xs) e) (le-of-suc-le-suc h)
+  where
+    rest : (r : Reading) (s : Check) → after r s ≡ Check.AllRead → s ≡ Check.AllRead
+    rest (Reading.At z exact) Check.AllRead e = refl
+    rest (Reading.At z exact) (Check.Refused r place) e = absurd (let k : _≡_ {A = ℕ} 0 1 = cc in omega arith)
+    rest (Reading.Refused r) s e = absurd (let k : _≡_ {A = ℕ} 0 1 = cc in omega arith)
+
 -- ---- the pass that writes
 module _ {A : Type 0} (read : A → Reading) where
   rounded-on : (d : A) (xs : List A) (k : ℕ) → k < length xs → rounded read (take (suc k) xs) ≡ rounded read (take k xs) + markOf (read (getD xs k d))
@@ -70,6 +91,12 @@ module _ {A : Type 0} (read : A → Reading) where
   rounded-on d (x ∷ xs) zero h = omega arith
   rounded-on d (x ∷ xs) (suc k) h = let e = rounded-on d xs k (le-of-suc-le-suc h) in omega arith
 
+  -- a reading that rounds nothing
+  pub none-rounded : ((x : A) → markOf (read x) ≡ 0) → (xs : List A) → rounded read xs ≡ 0
+  unfolding rounded
+  none-rounded f [] = refl
+  none-rounded f (x ∷ xs) = λ i. f x i + none-rounded f xs i
+
   put : (d : A) (xs : List A) (ds : List ℤ) (k : ℕ) → k < length xs → length xs ≤ length ds → set (map (λ (x : A). instantOf (read x)) (take k xs) ++ drop k ds) k (instantOf (read (getD xs k d))) ≡ map (λ (x : A). instantOf (read x)) (take (suc k) xs) ++ drop (suc k) ds
   put d [] ds k h l = absurd (not-suc-le-zero h)
   put d (x ∷ xs) [] k h l = absurd (not-suc-le-zero l)
@@ -77,34 +104,49 @@ module _ {A : Type 0} (read : A → Reading) where
   put d (x ∷ xs) (y ∷ ds) (suc k) h l = ap (λ (t : List ℤ). instantOf (read x) ∷ t) (put d xs ds k (le-of-suc-le-suc h) (le-of-suc-le-suc l))
 
 module _ {A : Type 0} (read : A → Reading) (xs : List A) (ds : List ℤ) where
-  -- the first i instants stand in now, which was ds, and n of them are rounded
-  pub record Writing (now : List ℤ) (n i : ℕ) : Type 0 where
+  -- the first i instants stand in now, which was ds
+  pub record Writing (now : List ℤ) (i : ℕ) : Type 0 where
     pub within : i ≤ length xs
     pub room : length xs ≤ length ds
     pub same-room : length now ≡ length ds
     pub holds : now ≡ map (λ (x : A). instantOf (read x)) (take i xs) ++ drop i ds
-    pub counts : n ≡ rounded read (take i xs)
-    pub few : n ≤ i
 
-  pub writing-starts : length xs ≤ length ds → Writing ds 0 0
-  unfolding rounded
-  writing-starts h = record { within = omega arith; room = h; same-room = refl; holds = refl; counts = refl; few = omega arith }
+  pub writing-starts : length xs ≤ length ds → Writing ds 0
+  writing-starts h = record { within = omega arith; room = h; same-room = refl; holds = refl }
 
-  pub writing-on : (now : List ℤ) (n i : ℕ) (d : A) (v : ℤ) (m : ℕ) → Writing now n i → i < length xs → v ≡ instantOf (read (getD xs i d)) → m ≡ markOf (read (getD xs i d)) → Writing (set now i v) (n + m) (i + 1)
-  writing-on now n i d v m w h e f =
+  pub writing-on : (now : List ℤ) (i : ℕ) (d : A) (v : ℤ) → Writing now i → i < length xs → v ≡ instantOf (read (getD xs i d)) → Writing (set now i v) (i + 1)
+  writing-on now i d v w h e =
       record {
         within = omega arith;
         room = w .room;
         same-room = length-set now i v ∙ w .same-room;
         holds = (λ j. set (w .holds j) i (e j)) ∙ (put read d xs ds i h (w .room) ∙ ap (λ (k : ℕ). map (λ (x : A). instantOf (read x)) (take k xs) ++ drop k ds) (sym (add-one i)));
-        counts = (λ j. w .counts j + f j) ∙ (sym (rounded-on read d xs i h) ∙ ap (λ (k : ℕ). rounded read (take k xs)) (sym (add-one i)));
-        few = let q = mark-le (read (getD xs i d)) in omega (arith, w .few);
       }
 
-  pub writing-ends : (now : List ℤ) (n i : ℕ) → Writing now n i → length xs ≤ i → (n ≡ rounded read xs) × (now ≡ overlaid read xs ds)
-  writing-ends now n i w h =
+  pub writing-ends : (now : List ℤ) (i : ℕ) → Writing now i → length xs ≤ i → now ≡ overlaid read xs ds
+  writing-ends now i w h =
       let e : i ≡ length xs = omega (arith, w .within) in
-      (w .counts ∙ ap (rounded read) (take-all i xs h), w .holds ∙ (λ j. map (λ (x : A). instantOf (read x)) (take-all i xs h j) ++ drop (e j) ds))
+      w .holds ∙ (λ j. map (λ (x : A). instantOf (read x)) (take-all i xs h j) ++ drop (e j) ds)
+
+module _ {A : Type 0} (read : A → Reading) (xs : List A) where
+  -- n of the first i offsets are rounded
+  pub record Counting (n i : ℕ) : Type 0 where
+    pub counts : n ≡ rounded read (take i xs)
+    pub few : n ≤ i
+
+  pub counting-starts : Counting 0 0
+  unfolding rounded
+  counting-starts = record { counts = refl; few = omega arith }
+
+  pub counting-on : (n i : ℕ) (d : A) (m : ℕ) → Counting n i → i < length xs → m ≡ markOf (read (getD xs i d)) → Counting (n + m) (i + 1)
+  counting-on n i d m c h f =
+      record {
+        counts = (λ j. c .counts j + f j) ∙ (sym (rounded-on read d xs i h) ∙ ap (λ (k : ℕ). rounded read (take k xs)) (sym (add-one i)));
+        few = let q = mark-le (read (getD xs i d)) in omega (arith, c .few);
+      }
+
+  pub counting-ends : (n i : ℕ) → Counting n i → length xs ≤ i → n ≡ rounded read xs
+  counting-ends n i c h = c .counts ∙ ap (rounded read) (take-all i xs h)
 
 -- ---- the whole run
 module _ {A : Type 0} (read : A → Reading) (xs : List A) (room : ℕ) where
@@ -120,13 +162,13 @@ module _ {A : Type 0} (read : A → Reading) (xs : List A) (room : ℕ) where
   unfolding runCheck
   by-offsets b e h = (λ i. cond (sym e i) (cond (sym (le-ltb room (length xs) h) i) (Check.Refused NoRoom 0) (checked read xs)) (Check.Refused OutOfRange 0))
 
-  -- where every offset is read, there is room
-  pub has-room : (b : Bool) → runCheck read b xs room ≡ Check.AllRead → length xs ≤ room
+  -- where the run comes to nothing else, there is room and every offset is read
+  pub passed : (b : Bool) → runCheck read b xs room ≡ Check.AllRead → (length xs ≤ room) × (checked read xs ≡ Check.AllRead)
   unfolding runCheck
-  has-room b e = fits (ltb room (length xs)) b refl e
+  passed b e = fits (ltb room (length xs)) b refl e
     where
-      fits : (t b : Bool) → ltb room (length xs) ≡ t → cond b (cond t (Check.Refused NoRoom 0) (checked read xs)) (Check.Refused OutOfRange 0) ≡ Check.AllRead → length xs ≤ room
+      fits : (t b : Bool) → ltb room (length xs) ≡ t → cond b (cond t (Check.Refused NoRoom 0) (checked read xs)) (Check.Refused OutOfRange 0) ≡ Check.AllRead → (length xs ≤ room) × (checked read xs ≡ Check.AllRead)
       fits true true f h = absurd (let k : _≡_ {A = ℕ} 0 1 = cc in omega arith)
       fits true false f h = absurd (let k : _≡_ {A = ℕ} 0 1 = cc in omega arith)
       fits false false f h = absurd (let k : _≡_ {A = ℕ} 0 1 = cc in omega arith)
-      fits false true f h = ltb-false room (length xs) f
+      fits false true f h = (ltb-false room (length xs) f, h)

@@ -4,12 +4,19 @@ ghost use mathlib.Core.Bool.{cond};
 ghost use Rattle.instant.specs.Instant.{inRange};
 ghost use Rattle.double.specs.Reading.{instantOf};
 ghost use Rattle.axis.specs.Axis.{readDoubleOn, readWholeOn};
-ghost use Rattle.runs.specs.Run.{markOf, runCheck, runAnswer, runWritten};
+ghost use Prim.Native.Nat.{_≤_};
+ghost use lib.ListN.{length};
+ghost use Rattle.runs.specs.Run.{markOf, checked, rounded, overlaid, runCheck, runAnswer, runWritten};
+ghost use Rattle.runs.specs.declared.Check.{Check};
+use axis::Step;
 use axis_record::Axis;
 use double::Reading;
+use period::Mode;
 use refusal::Refusal;
 
 pub mod each;
+pub mod ends;
+pub mod fixed;
 
 // Whether every offset of a run is read, or the first refusal and its place, counted from 0.
 pub enum Check {
@@ -64,12 +71,27 @@ fn check_doubles(axis: Axis, source: &[f64], room: usize) -> Check
                 place: 0,
             };
         }
-        return each::check_doubles(axis, source);
+        return ends::check_doubles(axis, source);
     }
     return Check::Refused {
         refusal: Refusal::OutOfRange,
         place: 0,
     };
+}
+
+// The instants of doubles that are all read, and how many were rounded.
+fn write_doubles(axis: Axis, source: &[f64], destination: &mut [i64]) -> usize
+    requires { ⌜ length (now source) ≤ length (now destination) ⌝ }
+    ensures counted { λ n. ⌜ n ≡ rounded (readDoubleOn axis) (now (source .entry)) ⌝ }
+    ensures written { λ _. ⌜ now (destination .exit) ≡ overlaid (readDoubleOn axis) (now (source .entry)) (now (destination .entry)) ⌝ }
+{
+    let c = axis.calendar;
+    let p = axis.period;
+    let mode = axis.mode;
+    match mode {
+        Mode::Fixed => return fixed::write_doubles(c, p, axis.reference, source, destination),
+        Mode::Calendar => return each::write_doubles(axis, source, destination),
+    }
 }
 
 // A run of doubles.
@@ -86,7 +108,7 @@ pub fn read_doubles(axis: Axis, source: &[f64], destination: &mut [i64]) -> RunA
             rounded: 0,
         },
         Check::AllRead => {
-            let rounded = each::write_doubles(axis, source, destination);
+            let rounded = write_doubles(axis, source, destination);
             RunAnswer {
                 number: 0,
                 place: 0,
@@ -109,7 +131,7 @@ fn check_wholes(axis: Axis, source: &[i64], room: usize) -> Check
                 place: 0,
             };
         }
-        return each::check_wholes(axis, source);
+        return ends::check_wholes(axis, source);
     }
     return Check::Refused {
         refusal: Refusal::OutOfRange,
@@ -117,7 +139,21 @@ fn check_wholes(axis: Axis, source: &[i64], room: usize) -> Check
     };
 }
 
-// A run of wholes.
+// The instants of whole offsets that are all read.
+fn write_wholes(axis: Axis, source: &[i64], destination: &mut [i64])
+    requires { ⌜ (length (now source) ≤ length (now destination)) × (checked (readWholeOn axis) (now source) ≡ Check.AllRead) ⌝ }
+    ensures { λ _. ⌜ now (destination .exit) ≡ overlaid (readWholeOn axis) (now (source .entry)) (now (destination .entry)) ⌝ }
+{
+    let c = axis.calendar;
+    let p = axis.period;
+    match axis::step_on(axis) {
+        Step::Time => return fixed::write_wholes(c, p, axis.reference, source, destination),
+        Step::Months => return each::write_wholes(axis, source, destination),
+        Step::Years => return each::write_wholes(axis, source, destination),
+    }
+}
+
+// A run of wholes. A whole offset that is read is exact.
 pub fn read_wholes(axis: Axis, source: &[i64], destination: &mut [i64]) -> RunAnswer
     ensures answered { λ r. ⌜ r ≡ runAnswer (readWholeOn axis) (inRange (axis .calendar) (axis .reference)) (now (source .entry)) (now (destination .entry)) ⌝ }
     ensures written { λ _. ⌜ now (destination .exit) ≡ runWritten (readWholeOn axis) (inRange (axis .calendar) (axis .reference)) (now (source .entry)) (now (destination .entry)) ⌝ }
@@ -131,12 +167,12 @@ pub fn read_wholes(axis: Axis, source: &[i64], destination: &mut [i64]) -> RunAn
             rounded: 0,
         },
         Check::AllRead => {
-            let rounded = each::write_wholes(axis, source, destination);
+            write_wholes(axis, source, destination);
             RunAnswer {
                 number: 0,
                 place: 0,
                 length: source.len(),
-                rounded,
+                rounded: 0,
             }
         }
     }

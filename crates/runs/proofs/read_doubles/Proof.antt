@@ -6,7 +6,7 @@ use Rattle.instant.specs.Instant.{inRange}
 use Rattle.axis.specs.Axis.{readDoubleOn}
 use Rattle.runs.specs.declared.Check.{Check}
 use Rattle.runs.specs.Run.{rounded, overlaid, runCheck, answerOf, chosen}
-use Rattle.runs.proofs.Passes.{has-room}
+use Rattle.runs.proofs.Passes.{passed}
 use borrow.Author.Needs.{needs}
 use Rattle.runs.proofs.read_doubles.Statement.{statement}
 use Rattle.runs.proofs.read_doubles.Tie as tie
@@ -34,7 +34,7 @@ write-doubles-requires : tie.Need-write-doubles-requires
 write-doubles-requires c κs =
     let m = c .before .before .before in
     let a = start m in
-    has-room (readDoubleOn (a .args .axis)) (a .args .source .now) (length (a .args .destination .now)) (inRange (a .args .axis .calendar) (a .args .axis .reference)) (sym (is-checked m) ∙ c .before .enum-told .given .1)
+    passed (readDoubleOn (a .args .axis)) (a .args .source .now) (length (a .args .destination .now)) (inRange (a .args .axis .calendar) (a .args .axis .reference)) (sym (is-checked m) ∙ c .before .enum-told .given .1) .0
 
 returns : tie.Need-returns
 returns c =

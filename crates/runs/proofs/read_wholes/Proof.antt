@@ -1,15 +1,28 @@
 -- `runs::read_wholes` meets its contract: the answer and the destination by what the run comes to.
-use mathlib.Core.Path.{_≡_, sym, ap, _∙_}
+use mathlib.Core.Path.{_≡_, refl, sym, ap, _∙_}
+use mathlib.Core.Bool.{Bool, cond}
 use Prim.Native.Nat.{ℕ}
+use lib.IntN.{ℤ}
 use lib.ListN.{length}
 use Rattle.instant.specs.Instant.{inRange}
+use Rattle.double.specs.declared.Reading.{Reading}
 use Rattle.axis.specs.Axis.{readWholeOn}
+use Rattle.axis.proofs.Demands.{whole-exact}
+use Rattle.axis_record.specs.declared.Axis.{Axis}
 use Rattle.runs.specs.declared.Check.{Check}
-use Rattle.runs.specs.Run.{rounded, overlaid, runCheck, answerOf, chosen}
-use Rattle.runs.proofs.Passes.{has-room}
+use Rattle.runs.specs.Run.{markOf, rounded, overlaid, runCheck, answerOf, chosen}
+use Rattle.runs.proofs.Passes.{passed, none-rounded}
 use borrow.Author.Needs.{needs}
 use Rattle.runs.proofs.read_wholes.Statement.{statement}
 use Rattle.runs.proofs.read_wholes.Tie as tie
+
+-- a whole offset is never rounded
+whole-unmarked : (axis : Axis) (n : ℤ) → markOf (readWholeOn axis n) ≡ 0
+whole-unmarked axis n = go (readWholeOn axis n) refl
+  where
+    go : (r : Reading) → readWholeOn axis n ≡ r → markOf r ≡ 0
+    go (Reading.At t exact) h = ap (λ (b : Bool). cond b 0 1) (whole-exact axis n t exact h)
+    go (Reading.Refused r) h = refl
 
 module _ (c : tie.After-check-wholes) where
   abbrev start : tie.Start
@@ -34,7 +47,7 @@ write-wholes-requires : tie.Need-write-wholes-requires
 write-wholes-requires c κs =
     let m = c .before .before .before in
     let a = start m in
-    has-room (readWholeOn (a .args .axis)) (a .args .source .now) (length (a .args .destination .now)) (inRange (a .args .axis .calendar) (a .args .axis .reference)) (sym (is-checked m) ∙ c .before .enum-told .given .1)
+    passed (readWholeOn (a .args .axis)) (a .args .source .now) (length (a .args .destination .now)) (inRange (a .args .axis .calendar) (a .args .axis .reference)) (sym (is-checked m) ∙ c .before .enum-told .given .1)
 
 returns : tie.Need-returns
 returns c =
@@ -52,12 +65,11 @@ returns-2 : tie.Need-returns-2
 returns-2 c =
     let m = c .before .before .before .before .before in
     let a = start m in
+    let read = readWholeOn (a .args .axis) in
+    let xs = a .args .source .now in
+    let ds = a .args .destination .now in
     let e = sym (c .before .before .before .enum-told .given .1) ∙ is-checked m in
-    let w = c .before .write-wholes .ensures in
-    let n = length (a .args .source .now) in
-    let r = w .0 in
-    let o = w .1 in
-    (ap (λ (q : ℕ). answerOf Check.AllRead n q) r ∙ ap (λ (s : Check). answerOf s n (rounded (readWholeOn (a .args .axis)) (a .args .source .now))) e, o ∙ ap (λ (s : Check). chosen s (overlaid (readWholeOn (a .args .axis)) (a .args .source .now) (a .args .destination .now)) (a .args .destination .now)) e)
+    (ap (λ (q : ℕ). answerOf Check.AllRead (length xs) q) (sym (none-rounded read (whole-unmarked (a .args .axis)) xs)) ∙ ap (λ (s : Check). answerOf s (length xs) (rounded read xs)) e, c .before .write-wholes .ensures ∙ ap (λ (s : Check). chosen s (overlaid read xs ds) ds) e)
 
 pub read-wholes-spec : {M : Type 1} → statement M
 read-wholes-spec =

@@ -11,13 +11,13 @@ use Rattle.double.specs.Reading.{instantOf}
 use Rattle.double.specs.declared.Reading.{Reading}
 use Rattle.axis.specs.Axis.{readDoubleOn}
 use Rattle.runs.specs.Run.{markOf}
-use Rattle.runs.proofs.Passes.{mark-le, Writing, writing-starts, writing-on, writing-ends}
+use Rattle.runs.proofs.Passes.{mark-le, Writing, writing-starts, writing-on, writing-ends, Counting, counting-starts, counting-on, counting-ends}
 use borrow.Author.Needs.{needs}
 use Rattle.runs.proofs.each.write_doubles.Statement.{statement}
 use Rattle.runs.proofs.each.write_doubles.Tie as tie
 
 abbrev Inv-loop : tie.InvT-loop
-Inv-loop axis source destination₀ count₀ i₀ destination count i = Writing (readDoubleOn axis) source destination₀ destination count i
+Inv-loop axis source destination₀ count₀ i₀ destination count i = Writing (readDoubleOn axis) source destination₀ destination i × Counting (readDoubleOn axis) source count i
 
 abbrev μ-loop : tie.MeasureT-loop
 μ-loop axis source destination₀ count₀ i₀ destination count i = length source - i
@@ -26,7 +26,7 @@ abbrev read : tie.Start Inv-loop μ-loop → Float → Reading
 read a = readDoubleOn (a .args .axis)
 
 loop-holds : tie.Need-loop-holds Inv-loop μ-loop
-loop-holds c = writing-starts _ _ _ (c .before .pre)
+loop-holds c = (writing-starts _ _ _ (c .before .pre), counting-starts _ _)
 
 mul-read-double : tie.Need-mul-read-double Inv-loop μ-loop
 mul-read-double c = search needs
@@ -64,7 +64,8 @@ loop-again c =
     let a = l .before .before in
     let e = c .before .before .read-double .ensures in
     let v = toZ-ofZ w64 (c .before .instant .result) (record { sfits = c .before .instant .ok }) in
-    writing-on (read a) (a .args .source .now) (a .args .destination .now) (l .loop .destination) (l .loop .count) (l .loop .i) _ _ _ (l .loop .inv) (c .before .before .before .before .loop-test .taken) (v ∙ (c .before .instant .ensures ∙ ap instantOf (e))) (c .mark .ensures ∙ ap markOf (e))
+    let h = c .before .before .before .before .loop-test .taken in
+    (writing-on (read a) (a .args .source .now) (a .args .destination .now) (l .loop .destination) (l .loop .i) _ _ (l .loop .inv .0) h (v ∙ (c .before .instant .ensures ∙ ap instantOf e)), counting-on (read a) (a .args .source .now) (l .loop .count) (l .loop .i) _ _ (l .loop .inv .1) h (c .mark .ensures ∙ ap markOf e))
 
 same-length : tie.Need-same-length Inv-loop μ-loop
 same-length c = search needs
@@ -73,7 +74,7 @@ returns : tie.Need-returns Inv-loop μ-loop
 returns c =
     let l = c .before in
     let a = l .before .before in
-    writing-ends (read a) (a .args .source .now) (a .args .destination .now) (l .loop .destination) (l .loop .count) (l .loop .i) (l .loop .inv) (c .loop-test .left)
+    (counting-ends (read a) (a .args .source .now) (l .loop .count) (l .loop .i) (l .loop .inv .1) (c .loop-test .left), writing-ends (read a) (a .args .source .now) (a .args .destination .now) (l .loop .destination) (l .loop .i) (l .loop .inv .0) (c .loop-test .left))
 
 pub write-doubles-spec : {M : Type 1} → statement M
 write-doubles-spec =
