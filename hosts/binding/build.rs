@@ -38,7 +38,7 @@ fn link(root: &Path) {
 
 fn main() {
     let is_stub = env::var_os("CARGO_FEATURE_STUB").is_some();
-    let calls = if is_stub { CALLS[..12].iter().map(|call| call.to_string()).collect() } else { listed() };
+    let calls = if is_stub { CALLS.map(String::from).to_vec() } else { listed() };
     println!("cargo:rustc-check-cfg=cfg(exported, values({}))", CALLS.map(|call| format!("{call:?}")).join(", "));
     for call in &calls {
         assert!(CALLS.contains(&call.as_str()), "hosts/calls.txt: no such call: {call}");
