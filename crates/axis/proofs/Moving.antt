@@ -24,8 +24,9 @@ use Rattle.instant.proofs.Theorems.{shown, time-of-fields, clock-of-time, time-
 use Rattle.double.specs.declared.Reading.{Reading}
 use Rattle.step.specs.Answers.{within, dateFrom}
 use Rattle.step.specs.declared.StepAnswer.{StepAnswer}
+use Rattle.step.specs.declared.reached.Part.{Part}
 use Rattle.fixed_axis.specs.declared.OffsetAnswer.{OffsetAnswer}
-use Rattle.axis.specs.Axis.{dateAt, onDay, onDate, readMoved, writeMoved, offsetFrom}
+use Rattle.axis.specs.Axis.{dateAt, onDay, onDate, readMoved, movedFrom, readPart, writeMoved, offsetFrom}
 
 -- ---- instants as readings
 abbrev pub instantReading : InstantAnswer → Reading
@@ -97,6 +98,11 @@ module _ (c : Calendar) (moved : Date → Date) (R : ℤ) where
       ∙ (ap (λ (a : DayAnswer). onDate c (dateFrom a (within (moved x))) (timeOf R)) (sym there)
       ∙ (within-years c (moved x) (timeOf R)
       ∙ ap (λ (b : Bool). cond b (onDay (dayAnswer c (moved x)) (timeOf R)) (Reading.Refused OutOfRange)) (sym (shown-in c R f h))))
+
+-- from a reference in the range
+pub moved-from : (c : Calendar) (part : Part) (R n : ℤ) → inRange c R ≡ true → movedFrom c part (dateAt c R) (timeOf R) n ≡ readPart c part R n
+unfolding readMoved
+moved-from c part R n h = ap (λ (b : Bool). cond b (movedFrom c part (dateAt c R) (timeOf R) n) (Reading.Refused OutOfRange)) (sym h)
 
 -- ---- writing
 module _ (c : Calendar) (between : Date → Date → StepAnswer) (R t : ℤ) where

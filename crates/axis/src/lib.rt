@@ -21,6 +21,8 @@ use period::Period;
 use refusal::Refusal;
 use step::StepAnswer;
 
+pub mod moved;
+
 pub enum Offset {
     Whole(i64),
     Double(f64),

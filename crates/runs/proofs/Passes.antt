@@ -162,13 +162,18 @@ module _ {A : Type 0} (read : A → Reading) (xs : List A) (room : ℕ) where
   unfolding runCheck
   by-offsets b e h = (λ i. cond (sym e i) (cond (sym (le-ltb room (length xs) h) i) (Check.Refused NoRoom 0) (checked read xs)) (Check.Refused OutOfRange 0))
 
-  -- where the run comes to nothing else, there is room and every offset is read
-  pub passed : (b : Bool) → runCheck read b xs room ≡ Check.AllRead → (length xs ≤ room) × (checked read xs ≡ Check.AllRead)
+  -- where the run comes to nothing else, the reference is in the range, there is room, and every offset is read
+  pub record Passed (b : Bool) : Type 0 where
+    pub reference : b ≡ true
+    pub fits : length xs ≤ room
+    pub all-read : checked read xs ≡ Check.AllRead
+
+  pub passed : (b : Bool) → runCheck read b xs room ≡ Check.AllRead → Passed b
   unfolding runCheck
-  passed b e = fits (ltb room (length xs)) b refl e
+  passed b e = go (ltb room (length xs)) b refl e
     where
-      fits : (t b : Bool) → ltb room (length xs) ≡ t → cond b (cond t (Check.Refused NoRoom 0) (checked read xs)) (Check.Refused OutOfRange 0) ≡ Check.AllRead → (length xs ≤ room) × (checked read xs ≡ Check.AllRead)
-      fits true true f h = absurd (let k : _≡_ {A = ℕ} 0 1 = cc in omega arith)
-      fits true false f h = absurd (let k : _≡_ {A = ℕ} 0 1 = cc in omega arith)
-      fits false false f h = absurd (let k : _≡_ {A = ℕ} 0 1 = cc in omega arith)
-      fits false true f h = (ltb-false room (length xs) f, h)
+      go : (t b : Bool) → ltb room (length xs) ≡ t → cond b (cond t (Check.Refused NoRoom 0) (checked read xs)) (Check.Refused OutOfRange 0) ≡ Check.AllRead → Passed b
+      go true true f h = absurd (let k : _≡_ {A = ℕ} 0 1 = cc in omega arith)
+      go true false f h = absurd (let k : _≡_ {A = ℕ} 0 1 = cc in omega arith)
+      go false false f h = absurd (let k : _≡_ {A = ℕ} 0 1 = cc in omega arith)
+      go false true f h = record { reference = refl; fits = ltb-false room (length xs) f; all-read = h }

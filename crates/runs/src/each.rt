@@ -62,16 +62,3 @@ pub fn check_wholes(axis: Axis, source: &[i64]) -> Check
     }
     Check::AllRead
 }
-
-// The instants, each at its own offset's place.
-pub fn write_wholes(axis: Axis, source: &[i64], destination: &mut [i64])
-    requires { ⌜ length (now source) ≤ length (now destination) ⌝ }
-    ensures { λ _. ⌜ now (destination .exit) ≡ overlaid (readWholeOn axis) (now (source .entry)) (now (destination .entry)) ⌝ }
-{
-    let mut i: usize = 0;
-    while i < source.len() {
-        let one = axis::read_whole(axis, source[i]);
-        destination[i] = crate::instant(one);
-        i += 1;
-    }
-}

@@ -12,7 +12,8 @@ use period::Period;
 
 // The instants, each at its own offset's place, and how many were rounded; of the range from `first` to `last`.
 fn write_between(first: i64, last: i64, reference: i64, micros: u64, source: &[f64], destination: &mut [i64]) -> usize
-    requires { ⌜ (length (now source) ≤ length (now destination)) × Bounds first last micros ⌝ }
+    requires room { ⌜ length (now source) ≤ length (now destination) ⌝ }
+    requires bounds { ⌜ Bounds first last micros ⌝ }
     ensures counted { λ n. ⌜ n ≡ rounded (readBetween first last reference micros) (now (source .entry)) ⌝ }
     ensures written { λ _. ⌜ now (destination .exit) ≡ overlaid (readBetween first last reference micros) (now (source .entry)) (now (destination .entry)) ⌝ }
 {
@@ -40,7 +41,8 @@ pub fn write_doubles(c: Calendar, p: Period, reference: i64, source: &[f64], des
 
 // The instants of whole offsets that are all read, each at its own offset's place.
 pub fn write_wholes(c: Calendar, p: Period, reference: i64, source: &[i64], destination: &mut [i64])
-    requires { ⌜ (length (now source) ≤ length (now destination)) × (checked (readWhole c p reference) (now source) ≡ Check.AllRead) ⌝ }
+    requires room { ⌜ length (now source) ≤ length (now destination) ⌝ }
+    requires read { ⌜ checked (readWhole c p reference) (now source) ≡ Check.AllRead ⌝ }
     ensures { λ _. ⌜ now (destination .exit) ≡ overlaid (readWhole c p reference) (now (source .entry)) (now (destination .entry)) ⌝ }
 {
     let mut i: usize = 0;

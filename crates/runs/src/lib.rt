@@ -1,6 +1,6 @@
 // A lent run of offsets read at once into a lent run of instants, all or nothing. A reader may rely on specs/Run.antt.
 ghost use mathlib.Core.Path.{_≡_};
-ghost use mathlib.Core.Bool.{cond};
+ghost use mathlib.Core.Bool.{true, cond};
 ghost use Rattle.instant.specs.Instant.{inRange};
 ghost use Rattle.double.specs.Reading.{instantOf};
 ghost use Rattle.axis.specs.Axis.{readDoubleOn, readWholeOn};
@@ -13,10 +13,12 @@ use axis_record::Axis;
 use double::Reading;
 use period::Mode;
 use refusal::Refusal;
+use step::reached::Part;
 
 pub mod each;
 pub mod ends;
 pub mod fixed;
+pub mod stepped;
 
 // Whether every offset of a run is read, or the first refusal and its place, counted from 0.
 pub enum Check {
@@ -141,15 +143,17 @@ fn check_wholes(axis: Axis, source: &[i64], room: usize) -> Check
 
 // The instants of whole offsets that are all read.
 fn write_wholes(axis: Axis, source: &[i64], destination: &mut [i64])
-    requires { ⌜ (length (now source) ≤ length (now destination)) × (checked (readWholeOn axis) (now source) ≡ Check.AllRead) ⌝ }
+    requires room { ⌜ length (now source) ≤ length (now destination) ⌝ }
+    requires begun { ⌜ inRange (axis .calendar) (axis .reference) ≡ true ⌝ }
+    requires read { ⌜ checked (readWholeOn axis) (now source) ≡ Check.AllRead ⌝ }
     ensures { λ _. ⌜ now (destination .exit) ≡ overlaid (readWholeOn axis) (now (source .entry)) (now (destination .entry)) ⌝ }
 {
     let c = axis.calendar;
     let p = axis.period;
     match axis::step_on(axis) {
         Step::Time => return fixed::write_wholes(c, p, axis.reference, source, destination),
-        Step::Months => return each::write_wholes(axis, source, destination),
-        Step::Years => return each::write_wholes(axis, source, destination),
+        Step::Months => return stepped::write_wholes(c, Part::Month, axis.reference, source, destination),
+        Step::Years => return stepped::write_wholes(c, Part::Year, axis.reference, source, destination),
     }
 }
 

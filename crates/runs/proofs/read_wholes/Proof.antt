@@ -47,7 +47,8 @@ write-wholes-requires : tie.Need-write-wholes-requires
 write-wholes-requires c κs =
     let m = c .before .before .before in
     let a = start m in
-    passed (readWholeOn (a .args .axis)) (a .args .source .now) (length (a .args .destination .now)) (inRange (a .args .axis .calendar) (a .args .axis .reference)) (sym (is-checked m) ∙ c .before .enum-told .given .1)
+    let p = passed (readWholeOn (a .args .axis)) (a .args .source .now) (length (a .args .destination .now)) (inRange (a .args .axis .calendar) (a .args .axis .reference)) (sym (is-checked m) ∙ c .before .enum-told .given .1) in
+    (p .fits, (p .reference, p .all-read))
 
 returns : tie.Need-returns
 returns c =
