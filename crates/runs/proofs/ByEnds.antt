@@ -1,5 +1,5 @@
 -- A run checked by its ends: an offset between two that are read is read, so a run whose least and greatest offset are read is read whole.
-use mathlib.Core.Path.{_≡_, refl, sym, ap, _∙_}
+use mathlib.Core.Path.{_≡_, refl, sym, ap, _∙_, subst}
 use mathlib.Core.Bool.{Bool, true, _&&_}
 use mathlib.Core.List.{List, [], _∷_}
 use lib.Dec.{T}
@@ -13,38 +13,49 @@ use Rattle.fixed_axis.specs.Fixed.{readDouble}
 use Rattle.fixed_axis.proofs.Between.{double-between}
 use Rattle.axis.specs.Axis.{readDoubleOn, readWholeOn}
 use Rattle.axis.proofs.Between.{whole-between}
-use Rattle.axis.proofs.Demands.{fixed-double}
+use Rattle.axis.proofs.Demands.{fixed-double, whole-double}
 use Rattle.axis_record.specs.declared.Axis.{Axis}
-use Rattle.span.specs.Span.{Each, doubleSpan, wholeSpan}
+use Rattle.span.specs.Span.{Each, doubleSpan, wholeSpan, wholeDoubleSpan}
 use Rattle.span.specs.declared.Doubles.{Doubles}
-use Rattle.span.proofs.Within.{doubles-within, wholes-within}
+use Rattle.span.specs.declared.Wholes.{Wholes}
+use Rattle.span.specs.declared.WholeDoubles.{WholeDoubles}
+use Rattle.span.proofs.Within.{doubles-within, wholes-within, WholeWithin, whole-doubles-within}
 use Rattle.runs.specs.declared.Check.{Check}
 use Rattle.runs.specs.Run.{isRead, after, checked}
 use Rattle.runs.proofs.Passes.{was-read}
 
+-- a run of offsets that are each read
+each-read : {A : Type 0} (read : A → Reading) (P : A → Type 0) → ((x : A) → P x → isRead (read x) ≡ true) → (xs : List A) → Each P xs → checked read xs ≡ Check.AllRead
+unfolding checked
+each-read read P f [] k = refl
+each-read read P f (x ∷ xs) k = let r = was-read (read x) (f x (k .0)) in (λ i. after (r .2 i) (each-read read P f xs (k .1) i))
+
 -- `between` says that an offset between two that are read is read
 module _ {A : Type 0} (read : A → Reading) (AtMost : A → A → Type 0) (between : (x y z : A) (t u : ℤ) (i j : Bool) → AtMost x y → AtMost y z → read x ≡ Reading.At t i → read z ≡ Reading.At u j → isRead (read y) ≡ true) (a b : A) (h : (isRead (read a) && isRead (read b)) ≡ true) where
-  inside : (x : A) → AtMost a x → AtMost x b → isRead (read x) ≡ true
-  inside x f g =
+  inside : (x : A) → AtMost a x × AtMost x b → isRead (read x) ≡ true
+  inside x f =
       let ends = and-parts (isRead (read a)) (isRead (read b)) h in
       let l = was-read (read a) (ends .0) in
       let r = was-read (read b) (ends .1) in
-      between a x b (l .0) (r .0) (l .1) (r .1) f g (l .2) (r .2)
-
-  by-ends : (xs : List A) → Each (λ (x : A). AtMost a x × AtMost x b) xs → checked read xs ≡ Check.AllRead
-  unfolding checked
-  by-ends [] k = refl
-  by-ends (x ∷ xs) k = let r = was-read (read x) (inside x (k .0 .0) (k .0 .1)) in (λ i. after (r .2 i) (by-ends xs (k .1) i))
+      between a x b (l .0) (r .0) (l .1) (r .1) (f .0) (f .1) (l .2) (r .2)
 
 -- ---- doubles on a fixed axis
 pub doubles-by-ends : (axis : Axis) (xs : List Float) (a b : Float) → axis .mode ≡ Mode.Fixed → doubleSpan xs ≡ Doubles.Between a b → (isRead (readDoubleOn axis a) && isRead (readDoubleOn axis b)) ≡ true → checked (readDoubleOn axis) xs ≡ Check.AllRead
-doubles-by-ends axis xs a b m s h = by-ends (readDoubleOn axis) (λ (x y : Float). T (le x y)) between a b h xs (doubles-within xs a b s)
+doubles-by-ends axis xs a b m s h = each-read (readDoubleOn axis) (λ (x : Float). T (le a x) × T (le x b)) (inside (readDoubleOn axis) (λ (x y : Float). T (le x y)) between a b h) xs (doubles-within xs a b s)
   where
     between : (x y z : Float) (t u : ℤ) (i j : Bool) → T (le x y) → T (le y z) → readDoubleOn axis x ≡ Reading.At t i → readDoubleOn axis z ≡ Reading.At u j → isRead (readDoubleOn axis y) ≡ true
     between x y z t u i j f g p q =
         ap isRead (fixed-double axis y m ∙ double-between (axis .calendar) (axis .period) (axis .reference) x y z t u i j f g (sym (fixed-double axis x m) ∙ p) (sym (fixed-double axis z m) ∙ q) .2)
 
 -- ---- whole offsets on every axis
-pub wholes-by-ends : (axis : Axis) (xs : List ℤ) → (isRead (readWholeOn axis (wholeSpan xs .least)) && isRead (readWholeOn axis (wholeSpan xs .greatest))) ≡ true → checked (readWholeOn axis) xs ≡ Check.AllRead
-wholes-by-ends axis xs h =
-    by-ends (readWholeOn axis) (λ (x y : ℤ). leZ x y ≡ true) (λ x y z t u i j f g p q. ap isRead (whole-between axis x y z t u i j f g p q .1)) (wholeSpan xs .least) (wholeSpan xs .greatest) h xs (wholes-within xs)
+module _ (axis : Axis) (w : Wholes) (h : (isRead (readWholeOn axis (w .least)) && isRead (readWholeOn axis (w .greatest))) ≡ true) where
+  whole-inside : (n : ℤ) → (leZ (w .least) n ≡ true) × (leZ n (w .greatest) ≡ true) → isRead (readWholeOn axis n) ≡ true
+  whole-inside = inside (readWholeOn axis) (λ (x y : ℤ). leZ x y ≡ true) (λ x y z t u i j f g p q. ap isRead (whole-between axis x y z t u i j f g p q .1)) (w .least) (w .greatest) h
+
+  pub wholes-by-ends : (xs : List ℤ) → wholeSpan xs ≡ w → checked (readWholeOn axis) xs ≡ Check.AllRead
+  wholes-by-ends xs e = each-read (readWholeOn axis) (λ (n : ℤ). (leZ (w .least) n ≡ true) × (leZ n (w .greatest) ≡ true)) whole-inside xs (subst (λ (v : Wholes). Each (λ (n : ℤ). (leZ (v .least) n ≡ true) × (leZ n (v .greatest) ≡ true)) xs) e (wholes-within xs))
+
+  -- and doubles that are whole offsets, in calendar mode
+  pub whole-doubles-by-ends : (xs : List Float) → axis .mode ≡ Mode.Calendar → wholeDoubleSpan xs ≡ WholeDoubles.Between w → checked (readDoubleOn axis) xs ≡ Check.AllRead
+  whole-doubles-by-ends xs m s =
+      each-read (readDoubleOn axis) (WholeWithin w) (λ x k. ap isRead (whole-double axis x (k .n) m (k .is)) ∙ whole-inside (k .n) (k .low, k .high)) xs (whole-doubles-within xs w s)

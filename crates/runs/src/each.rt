@@ -3,7 +3,7 @@ ghost use mathlib.Core.Path.{_≡_};
 ghost use Prim.Native.Nat.{_≤_};
 ghost use lib.ListN.{length};
 ghost use Rattle.axis.specs.Axis.{readDoubleOn, readWholeOn};
-ghost use Rattle.runs.specs.Run.{checked, rounded, overlaid};
+ghost use Rattle.runs.specs.Run.{checked, overlaid};
 use crate::Check;
 use axis_record::Axis;
 use double::Reading;
@@ -27,21 +27,17 @@ pub fn check_doubles(axis: Axis, source: &[f64]) -> Check
     Check::AllRead
 }
 
-// The instants, each at its own offset's place, and how many were rounded.
-pub fn write_doubles(axis: Axis, source: &[f64], destination: &mut [i64]) -> usize
+// The instants, each at its own offset's place.
+pub fn write_doubles(axis: Axis, source: &[f64], destination: &mut [i64])
     requires { ⌜ length (now source) ≤ length (now destination) ⌝ }
-    ensures counted { λ n. ⌜ n ≡ rounded (readDoubleOn axis) (now (source .entry)) ⌝ }
-    ensures written { λ _. ⌜ now (destination .exit) ≡ overlaid (readDoubleOn axis) (now (source .entry)) (now (destination .entry)) ⌝ }
+    ensures { λ _. ⌜ now (destination .exit) ≡ overlaid (readDoubleOn axis) (now (source .entry)) (now (destination .entry)) ⌝ }
 {
-    let mut count: usize = 0;
     let mut i: usize = 0;
     while i < source.len() {
         let one = axis::read_double(axis, source[i]);
         destination[i] = crate::instant(one);
-        count += crate::mark(one);
         i += 1;
     }
-    count
 }
 
 // The first refused offset.

@@ -1,6 +1,7 @@
 // A lent run of offsets read at once into a lent run of instants, all or nothing. A reader may rely on specs/Run.antt.
 ghost use mathlib.Core.Path.{_≡_};
 ghost use mathlib.Core.Bool.{true, cond};
+ghost use Rattle.period.specs.declared.Mode.{Mode};
 ghost use Rattle.instant.specs.Instant.{inRange};
 ghost use Rattle.double.specs.Reading.{instantOf};
 ghost use Rattle.axis.specs.Axis.{readDoubleOn, readWholeOn};
@@ -81,9 +82,27 @@ fn check_doubles(axis: Axis, source: &[f64], room: usize) -> Check
     };
 }
 
+// The instants of doubles that are all read in calendar mode, where a double is whole and so exact.
+fn write_whole_doubles(axis: Axis, source: &[f64], destination: &mut [i64])
+    requires room { ⌜ length (now source) ≤ length (now destination) ⌝ }
+    requires begun { ⌜ inRange (axis .calendar) (axis .reference) ≡ true ⌝ }
+    requires calendar { ⌜ axis .mode ≡ Mode.Calendar ⌝ }
+    requires read { ⌜ checked (readDoubleOn axis) (now source) ≡ Check.AllRead ⌝ }
+    ensures { λ _. ⌜ now (destination .exit) ≡ overlaid (readDoubleOn axis) (now (source .entry)) (now (destination .entry)) ⌝ }
+{
+    let c = axis.calendar;
+    match axis::step_on(axis) {
+        Step::Time => return each::write_doubles(axis, source, destination),
+        Step::Months => return stepped::write_doubles(c, Part::Month, axis.reference, source, destination),
+        Step::Years => return stepped::write_doubles(c, Part::Year, axis.reference, source, destination),
+    }
+}
+
 // The instants of doubles that are all read, and how many were rounded.
 fn write_doubles(axis: Axis, source: &[f64], destination: &mut [i64]) -> usize
-    requires { ⌜ length (now source) ≤ length (now destination) ⌝ }
+    requires room { ⌜ length (now source) ≤ length (now destination) ⌝ }
+    requires begun { ⌜ inRange (axis .calendar) (axis .reference) ≡ true ⌝ }
+    requires read { ⌜ checked (readDoubleOn axis) (now source) ≡ Check.AllRead ⌝ }
     ensures counted { λ n. ⌜ n ≡ rounded (readDoubleOn axis) (now (source .entry)) ⌝ }
     ensures written { λ _. ⌜ now (destination .exit) ≡ overlaid (readDoubleOn axis) (now (source .entry)) (now (destination .entry)) ⌝ }
 {
@@ -92,7 +111,10 @@ fn write_doubles(axis: Axis, source: &[f64], destination: &mut [i64]) -> usize
     let mode = axis.mode;
     match mode {
         Mode::Fixed => return fixed::write_doubles(c, p, axis.reference, source, destination),
-        Mode::Calendar => return each::write_doubles(axis, source, destination),
+        Mode::Calendar => {
+            write_whole_doubles(axis, source, destination);
+            return 0;
+        }
     }
 }
 

@@ -1,11 +1,10 @@
 -- `runs::ends::wholes_read` meets its contract: proofs/ByEnds.antt.
-use mathlib.Core.Path.{sym, ap, _∙_}
+use mathlib.Core.Path.{sym, _∙_}
 use mathlib.Core.Bool.{_&&_}
 use mir.Syntax.{w64}
 use mir.Val.{SFits}
 use mir.ValLaws.{toZ-ofZ}
 use Rattle.axis.specs.Axis.{readWholeOn}
-use Rattle.span.specs.declared.Wholes.{Wholes}
 use Rattle.runs.specs.Run.{isRead}
 use Rattle.runs.proofs.ByEnds.{wholes-by-ends}
 use borrow.Author.Needs.{needs}
@@ -25,9 +24,9 @@ returns c =
     let w = o .of-wholes .result in
     let l : SFits w64 (w .least) = search needs in
     let g : SFits w64 (w .greatest) = search needs in
-    let low = toZ-ofZ w64 (w .least) l ∙ ap (λ (k : Wholes). k .least) (o .of-wholes .ensures) in
-    let high = toZ-ofZ w64 (w .greatest) g ∙ ap (λ (k : Wholes). k .greatest) (o .of-wholes .ensures) in
-    λ h. wholes-by-ends (s .args .axis) (s .args .source .now) (sym (c .both-wholes-read .ensures ∙ (λ i. isRead (readWholeOn (s .args .axis) (low i)) && isRead (readWholeOn (s .args .axis) (high i)))) ∙ h)
+    let low = toZ-ofZ w64 (w .least) l in
+    let high = toZ-ofZ w64 (w .greatest) g in
+    λ h. wholes-by-ends (s .args .axis) w (sym (c .both-wholes-read .ensures ∙ (λ i. isRead (readWholeOn (s .args .axis) (low i)) && isRead (readWholeOn (s .args .axis) (high i)))) ∙ h) (s .args .source .now) (sym (o .of-wholes .ensures))
 
 pub wholes-read-spec : {M : Type 1} → statement M
 wholes-read-spec = tie.close (tie.spec of-wholes-requires both-wholes-read-requires returns)

@@ -27,8 +27,8 @@ module _ (m : tie.After-start-of) where
 start-of-requires : tie.Need-start-of-requires
 start-of-requires c κs = search needs
 
-write-from-requires : tie.Need-write-from-requires
-write-from-requires c κs =
+write-wholes-from-requires : tie.Need-write-wholes-from-requires
+write-wholes-from-requires c κs =
     let m = c .before in
     let s = start m in
     (s .pre .0, ((begun m .year, subst (λ (t : ℕ). t < 86400000000) (sym (begun m .time)) (time-small (s .args .reference))), ap (λ (read : ℤ → Reading). checked read (s .args .source .now)) (reading m) ∙ s .pre .1 .1))
@@ -40,7 +40,7 @@ returns : tie.Need-returns
 returns c =
     let m = c .before .before .before in
     let s = start m in
-    c .before .write-from .ensures ∙ ap (λ (read : ℤ → Reading). overlaid read (s .args .source .now) (s .args .destination .now)) (reading m)
+    c .before .write-wholes-from .ensures ∙ ap (λ (read : ℤ → Reading). overlaid read (s .args .source .now) (s .args .destination .now)) (reading m)
 
 pub write-wholes-spec : {M : Type 1} → statement M
-write-wholes-spec = tie.close (tie.spec start-of-requires write-from-requires same-length returns)
+write-wholes-spec = tie.close (tie.spec start-of-requires write-wholes-from-requires same-length returns)

@@ -1,4 +1,4 @@
--- `runs::stepped::write_from` meets its contract: proofs/Passes.antt, with the instant of an offset that is read.
+-- `runs::stepped::write_wholes_from` meets its contract: proofs/Passes.antt, with the instant of an offset that is read.
 use mathlib.Core.Path.{_≡_, ap, _∙_}
 use mathlib.Core.Bool.{true}
 use mathlib.Core.List.{List}
@@ -15,8 +15,8 @@ use Rattle.axis.specs.Axis.{movedFrom}
 use Rattle.runs.proofs.Passes.{read-at, Writing, writing-starts, writing-on, writing-ends}
 use Rattle.runs.proofs.Steps.{year-inside}
 use borrow.Author.Needs.{needs}
-use Rattle.runs.proofs.stepped.write_from.Statement.{statement}
-use Rattle.runs.proofs.stepped.write_from.Tie as tie
+use Rattle.runs.proofs.stepped.write_wholes_from.Statement.{statement}
+use Rattle.runs.proofs.stepped.write_wholes_from.Tie as tie
 
 abbrev Inv-loop : tie.InvT-loop
 Inv-loop c part start source destination₀ i₀ destination i = Writing (movedFrom c part (start .date) (start .time)) source destination₀ destination i
@@ -83,8 +83,8 @@ returns c =
     let a = l .before in
     writing-ends (read a) (xs a) (ds a) (l .loop .destination) (l .loop .i) (l .loop .inv) (c .loop-test .left)
 
-pub write-from-spec : {M : Type 1} → statement M
-write-from-spec =
+pub write-wholes-from-spec : {M : Type 1} → statement M
+write-wholes-from-spec =
     tie.close
     (tie.spec
     Inv-loop
