@@ -3,11 +3,10 @@
 ghost use mathlib.Core.Path.{_≡_};
 ghost use mathlib.Core.Bool.{true};
 ghost use Prim.Native.Nat.{_<_};
-ghost use Rattle.calendar.specs.Calendar.{inYears};
 ghost use Rattle.instant.specs.Instant.{inRange};
+ghost use Rattle.double.specs.Reading.{isRead};
 ghost use Rattle.double.specs.declared.Reading.{Reading};
 ghost use Rattle.step.specs.Closed.{Begun};
-ghost use Rattle.step.specs.Months.{movedBy};
 ghost use Rattle.axis.specs.Axis.{movedFrom};
 ghost use Rattle.axis.specs.Start.{StartOf};
 use calendar::Calendar;
@@ -60,7 +59,7 @@ pub fn start_of(c: Calendar, reference: i64) -> Start
 
 // The instant of an offset that is known to be read.
 pub fn instant_after(c: Calendar, part: Part, s: Start, n: i64) -> i64
-    requires { ⌜ Begun c (s .date) (s .year) × (s .time < 86400000000) × (inYears (movedBy part c n (s .date) .year) ≡ true) ⌝ }
+    requires { ⌜ Begun c (s .date) (s .year) × (s .time < 86400000000) × (isRead (movedFrom c part (s .date) (s .time) n) ≡ true) ⌝ }
     ensures { λ t. ⌜ Reading.At t true ≡ movedFrom c part (s .date) (s .time) n ⌝ }
 {
     let date = s.date;

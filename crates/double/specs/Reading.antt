@@ -28,6 +28,11 @@ abbrev pub exactOf : Reading → Bool
 exactOf (At z exact) = exact
 exactOf (Refused r) = false
 
+-- whether there is an instant
+abbrev pub isRead : Reading → Bool
+isRead (At z exact) = true
+isRead (Refused r) = false
+
 -- ---- the reading
 -- the nearest count: the reference and the exact displacement, rounded to a whole number, a tie to the even one
 abbrev pub nearestCount : ℤ → ℕ → Bool → ℕ → ℤ → ℤ

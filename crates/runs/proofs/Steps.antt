@@ -1,25 +1,18 @@
 -- Offsets by what they move on an axis: whole ones, and in calendar mode doubles that are whole.
 use mathlib.Core.Path.{_≡_, refl, sym, ap, _∙_}
-use mathlib.Core.Bool.{Bool, true, false, cond, false≢true}
-use Prim.Native.Nat.{ℕ}
+use mathlib.Core.Bool.{Bool, true, cond}
 use lib.IntN.{ℤ}
 use lib.Ieee.{Float}
-use Rattle.refusal.specs.declared.Refusal.the-variants.{OutOfRange, NoSuchDate}
-use Rattle.calendar.specs.Calendar.{exists, inYears}
-use Rattle.calendar.specs.Answers.{dayAnswer, dayNumber, pickDayAnswer}
-use Rattle.calendar.specs.declared.Calendar.{Calendar}
-use Rattle.calendar.specs.declared.Date.{Date}
-use Rattle.calendar.specs.declared.DayAnswer.{DayAnswer}
 use Rattle.period.specs.declared.Mode.{Mode}
 use Rattle.instant.specs.Instant.{inRange}
 use Rattle.double.specs.Whole.{wholeOf}
 use Rattle.double.specs.declared.Reading.{Reading}
 use Rattle.double.specs.declared.whole.Whole.{Whole}
-use Rattle.axis.specs.Axis.{stepOn, onDay, readStep, asWhole, byWhole, readWholeOn, readDoubleOn}
+use Rattle.axis.specs.Axis.{stepOn, readStep, asWhole, byWhole, readWholeOn, readDoubleOn}
 use Rattle.axis.specs.declared.Step.{Step}
 use Rattle.axis.proofs.Demands.{on-step, whole-exact, whole-double, refused-double}
 use Rattle.axis_record.specs.declared.Axis.{Axis}
-use Rattle.runs.specs.Run.{markOf, isRead}
+use Rattle.runs.specs.Run.{markOf}
 
 -- ---- whole offsets
 -- the reading, once it is known what they move
@@ -51,12 +44,3 @@ module _ (axis : Axis) (m : axis .mode ≡ Mode.Calendar) (h : inRange (axis .ca
       go : (w : Whole) → markOf (asWhole w (readWholeOn axis)) ≡ 0
       go (Whole.Is n) = whole-unmarked axis n
       go (Whole.Refused r) = refl
-
--- ---- where a date with a time of day is read, it lies in the years
-pub year-inside : (c : Calendar) (d : Date) (s : ℕ) → isRead (onDay (dayAnswer c d) s) ≡ true → inYears (d .year) ≡ true
-unfolding dayAnswer
-year-inside c d s = go (inYears (d .year)) (pickDayAnswer (exists c d) (DayAnswer.Is (dayNumber c d)) (DayAnswer.Refused NoSuchDate))
-  where
-    go : (b : Bool) (a : DayAnswer) → isRead (onDay (pickDayAnswer b a (DayAnswer.Refused OutOfRange)) s) ≡ true → b ≡ true
-    go true a h = refl
-    go false a h = absurd (false≢true h)

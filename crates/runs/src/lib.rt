@@ -17,7 +17,6 @@ use refusal::Refusal;
 use step::reached::Part;
 
 pub mod each;
-pub mod ends;
 pub mod fixed;
 pub mod stepped;
 
@@ -74,7 +73,7 @@ fn check_doubles(axis: Axis, source: &[f64], room: usize) -> Check
                 place: 0,
             };
         }
-        return ends::check_doubles(axis, source);
+        return each::check_doubles(axis, source);
     }
     return Check::Refused {
         refusal: Refusal::OutOfRange,
@@ -91,8 +90,9 @@ fn write_whole_doubles(axis: Axis, source: &[f64], destination: &mut [i64])
     ensures { λ _. ⌜ now (destination .exit) ≡ overlaid (readDoubleOn axis) (now (source .entry)) (now (destination .entry)) ⌝ }
 {
     let c = axis.calendar;
+    let p = axis.period;
     match axis::step_on(axis) {
-        Step::Time => return each::write_doubles(axis, source, destination),
+        Step::Time => return fixed::write_whole_doubles(c, p, axis.reference, source, destination),
         Step::Months => return stepped::write_doubles(c, Part::Month, axis.reference, source, destination),
         Step::Years => return stepped::write_doubles(c, Part::Year, axis.reference, source, destination),
     }
@@ -155,7 +155,7 @@ fn check_wholes(axis: Axis, source: &[i64], room: usize) -> Check
                 place: 0,
             };
         }
-        return ends::check_wholes(axis, source);
+        return each::check_wholes(axis, source);
     }
     return Check::Refused {
         refusal: Refusal::OutOfRange,

@@ -54,20 +54,23 @@ step-on-requires c κs = search needs
 enum-told : tie.Need-enum-told
 enum-told c = search needs
 
-write-doubles-requires : tie.Need-write-doubles-requires
-write-doubles-requires c κs = search needs
+write-whole-doubles-requires : tie.Need-write-whole-doubles-requires
+write-whole-doubles-requires c κs =
+    let m = c .before .before in
+    let o = m .before .before in
+    (o .before .before .pre .0, all-read o Step.Time (m .enum-told .given .1))
 
 same-length : tie.Need-same-length
 same-length c = search needs
 
 returns : tie.Need-returns
-returns c = search needs
+returns c = let m = c .before .before .before .before in c .before .write-whole-doubles .ensures ∙ written (m .before .before) Step.Time (m .enum-told .given .1)
 
 enum-told-2 : tie.Need-enum-told-2
 enum-told-2 c = search needs
 
-write-doubles-requires-2 : tie.Need-write-doubles-requires-2
-write-doubles-requires-2 c κs =
+write-doubles-requires : tie.Need-write-doubles-requires
+write-doubles-requires c κs =
     let m = c .before .before in
     let o = m .before .before in
     let e = m .enum-told2 .given .1 in
@@ -77,13 +80,13 @@ same-length-2 : tie.Need-same-length-2
 same-length-2 c = search needs
 
 returns-2 : tie.Need-returns-2
-returns-2 c = let m = c .before .before .before .before in c .before .write-doubles2 .ensures ∙ written (m .before .before) Step.Months (m .enum-told2 .given .1)
+returns-2 c = let m = c .before .before .before .before in c .before .write-doubles .ensures ∙ written (m .before .before) Step.Months (m .enum-told2 .given .1)
 
 enum-told-3 : tie.Need-enum-told-3
 enum-told-3 c = search needs
 
-write-doubles-requires-3 : tie.Need-write-doubles-requires-3
-write-doubles-requires-3 c κs =
+write-doubles-requires-2 : tie.Need-write-doubles-requires-2
+write-doubles-requires-2 c κs =
     let m = c .before .before in
     let o = m .before .before in
     let e = m .enum-told3 .given .1 in
@@ -93,7 +96,7 @@ same-length-3 : tie.Need-same-length-3
 same-length-3 c = search needs
 
 returns-3 : tie.Need-returns-3
-returns-3 c = let m = c .before .before .before .before in c .before .write-doubles3 .ensures ∙ written (m .before .before) Step.Years (m .enum-told3 .given .1)
+returns-3 c = let m = c .before .before .before .before in c .before .write-doubles2 .ensures ∙ written (m .before .before) Step.Years (m .enum-told3 .given .1)
 
 pub write-whole-doubles-spec : {M : Type 1} → statement M
 write-whole-doubles-spec =
@@ -101,14 +104,14 @@ write-whole-doubles-spec =
     (tie.spec
     step-on-requires
     enum-told
-    write-doubles-requires
+    write-whole-doubles-requires
     same-length
     returns
     enum-told-2
-    write-doubles-requires-2
+    write-doubles-requires
     same-length-2
     returns-2
     enum-told-3
-    write-doubles-requires-3
+    write-doubles-requires-2
     same-length-3
     returns-3)

@@ -9,7 +9,7 @@ use mir.ValLaws.{toZ-ofZ}
 use Rattle.signed.specs.Bias.{lower}
 use Rattle.signed.proofs.Machine.{crossed}
 use Rattle.calendar.specs.Answers.{dayAnswer}
-use Rattle.calendar.specs.Calendar.{exists, dateOf}
+use Rattle.calendar.specs.Calendar.{exists, dateOf, inYears}
 use Rattle.calendar.specs.declared.Date.{Date}
 use Rattle.calendar.specs.declared.DayAnswer.{DayAnswer}
 use Rattle.calendar.proofs.Answering.{date-there}
@@ -19,9 +19,18 @@ use Rattle.instant.proofs.Clock.{answered-near, raised-near, instant-at}
 use Rattle.double.specs.declared.Reading.{Reading}
 use Rattle.step.specs.Months.{movedBy}
 use Rattle.axis.specs.Axis.{onDay}
+use Rattle.axis.proofs.Moving.{year-inside}
 use borrow.Author.Needs.{needs}
 use Rattle.axis.proofs.moved.instant_after.Statement.{statement}
 use Rattle.axis.proofs.moved.instant_after.Tie as tie
+
+-- the date that is reached lies in the years
+module _ (s : tie.Start) where
+  abbrev reached : Date
+  reached = movedBy (s .args .part) (s .args .c) (s .args .n) (s .args .s .date)
+
+  inside : inYears (reached .year) ≡ true
+  inside = year-inside (s .args .c) reached (s .args .s .time) (s .pre .2)
 
 module _ (b : tie.After-biased) where
   abbrev start : tie.Start
@@ -30,18 +39,14 @@ module _ (b : tie.After-biased) where
   abbrev day : ℤ
   day = b .before .day-after .result
 
-  -- the date that is reached
-  abbrev reached : Date
-  reached = movedBy (start .args .part) (start .args .c) (start .args .n) (start .args .s .date)
-
-  date-is : dateOf (start .args .c) day ≡ reached
+  date-is : dateOf (start .args .c) day ≡ reached start
   date-is = b .before .day-after .ensures ∙ ap (λ (n : ℤ). movedBy (start .args .part) (start .args .c) n (start .args .s .date)) (toZ-ofZ w64 (start .args .n) (start .fits .n))
 
-  day-is : DayAnswer.Is day ≡ dayAnswer (start .args .c) reached
-  day-is = date-there (start .args .c) reached day (start .pre .2) (ap (exists (start .args .c)) (sym date-is) ∙ dates-exist (start .args .c) day) date-is
+  day-is : DayAnswer.Is day ≡ dayAnswer (start .args .c) (reached start)
+  day-is = date-there (start .args .c) (reached start) day (inside start) (ap (exists (start .args .c)) (sym date-is) ∙ dates-exist (start .args .c) day) date-is
 
   close : Near day
-  close = answered-near (start .args .c) reached day day-is
+  close = answered-near (start .args .c) (reached start) day day-is
 
   number-is : lower (b .biased .result) ≡ day
   number-is = crossed day (b .biased .result) (record { sfits = b .before .day-after .ok }) (b .biased .ensures)
@@ -50,7 +55,9 @@ module _ (b : tie.After-biased) where
   raised = raised-near day (b .biased .result) close number-is
 
 day-after-requires : tie.Need-day-after-requires
-day-after-requires c κs = search needs
+day-after-requires c κs =
+    let s = c .before in
+    (s .pre .0, ap (λ (n : ℤ). inYears (movedBy (s .args .part) (s .args .c) n (s .args .s .date) .year)) (toZ-ofZ w64 (s .args .n) (s .fits .n)) ∙ inside s)
 
 biased-requires : tie.Need-biased-requires
 biased-requires c κs = search needs

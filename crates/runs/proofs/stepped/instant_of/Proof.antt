@@ -1,18 +1,14 @@
 -- `runs::stepped::instant_of` meets its contract: the instant of the whole offset that the double is.
 use mathlib.Core.Path.{_≡_, sym, ap, _∙_}
-use mathlib.Core.Bool.{true}
 use lib.IntN.{ℤ}
 use mir.Syntax.{w64}
 use mir.ValLaws.{toZ-ofZ}
-use Rattle.calendar.specs.Calendar.{inYears}
 use Rattle.double.specs.Reading.{instantOf}
 use Rattle.double.specs.Whole.{wholeOf}
 use Rattle.double.specs.declared.Reading.{Reading}
 use Rattle.double.specs.declared.whole.Whole.{Whole}
-use Rattle.step.specs.Months.{movedBy}
 use Rattle.axis.specs.Axis.{movedFrom, asWhole}
-use Rattle.runs.specs.Run.{isRead}
-use Rattle.runs.proofs.Steps.{year-inside}
+use Rattle.double.specs.Reading.{isRead}
 use borrow.Author.Needs.{needs}
 use Rattle.runs.proofs.stepped.instant_of.Statement.{statement}
 use Rattle.runs.proofs.stepped.instant_of.Tie as tie
@@ -49,8 +45,7 @@ instant-after-requires c κs =
     let k = c .before in
     let s = start k in
     let e = toZ-ofZ w64 (n k) (record { sfits = c .known-told .given .0 .1 }) in
-    let moved = movedBy (s .args .part) (s .args .c) (n k) (s .args .start .date) in
-    (s .pre .0 .0, s .pre .0 .1, ap (λ (z : ℤ). inYears (movedBy (s .args .part) (s .args .c) z (s .args .start .date) .year)) e ∙ year-inside (s .args .c) moved (s .args .start .time) (ap (λ (w : Whole). isRead (asWhole w (read s))) (sym (is-whole k)) ∙ s .pre .1))
+    (s .pre .0 .0, s .pre .0 .1, ap (λ (z : ℤ). isRead (read s z)) e ∙ (ap (λ (w : Whole). isRead (asWhole w (read s))) (sym (is-whole k)) ∙ s .pre .1))
 
 returns-2 : tie.Need-returns-2
 returns-2 c =

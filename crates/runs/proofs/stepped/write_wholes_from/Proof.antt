@@ -1,19 +1,15 @@
 -- `runs::stepped::write_wholes_from` meets its contract: proofs/Passes.antt, with the instant of an offset that is read.
-use mathlib.Core.Path.{_≡_, ap, _∙_}
-use mathlib.Core.Bool.{true}
+use mathlib.Core.Path.{ap, _∙_}
 use mathlib.Core.List.{List}
-use Prim.Native.Nat.{ℕ, _-_, _<_}
+use Prim.Native.Nat.{_-_}
 use lib.IntN.{ℤ, pos}
 use lib.ListN.{length, getD}
 use mir.Syntax.{w64}
 use mir.ValLaws.{toZ-ofZ}
-use Rattle.calendar.specs.Calendar.{inYears}
-use Rattle.double.specs.Reading.{instantOf}
+use Rattle.double.specs.Reading.{instantOf, isRead}
 use Rattle.double.specs.declared.Reading.{Reading}
-use Rattle.step.specs.Months.{movedBy}
 use Rattle.axis.specs.Axis.{movedFrom}
 use Rattle.runs.proofs.Passes.{read-at, Writing, writing-starts, writing-on, writing-ends}
-use Rattle.runs.proofs.Steps.{year-inside}
 use borrow.Author.Needs.{needs}
 use Rattle.runs.proofs.stepped.write_wholes_from.Statement.{statement}
 use Rattle.runs.proofs.stepped.write_wholes_from.Tie as tie
@@ -34,10 +30,6 @@ module _ (a : tie.Start Inv-loop μ-loop) where
   abbrev read : ℤ → Reading
   read = movedFrom (a .args .c) (a .args .part) (a .args .start .date) (a .args .start .time)
 
-  -- the year that the offset at a place leads to
-  inside : (i : ℕ) (d : ℤ) → i < length xs → inYears (movedBy (a .args .part) (a .args .c) (getD xs i d) (a .args .start .date) .year) ≡ true
-  inside i d h = year-inside (a .args .c) (movedBy (a .args .part) (a .args .c) (getD xs i d) (a .args .start .date)) (a .args .start .time) (read-at read d xs i (a .pre .1 .1) h)
-
 loop-holds : tie.Need-loop-holds Inv-loop μ-loop
 loop-holds c = writing-starts _ _ _ (c .pre .0)
 
@@ -52,7 +44,7 @@ instant-after-requires c κs =
     let l = c .before .before in
     let a = l .before in
     let e = toZ-ofZ w64 (getD (xs a) (l .loop .i) (pos 0)) (record { sfits = c .instant-after-arg .given }) in
-    (a .pre .1 .0 .0, a .pre .1 .0 .1, ap (λ (n : ℤ). inYears (movedBy (a .args .part) (a .args .c) n (a .args .start .date) .year)) e ∙ inside a (l .loop .i) (pos 0) (c .before .loop-test .taken))
+    (a .pre .1 .0 .0, a .pre .1 .0 .1, ap (λ (n : ℤ). isRead (read a n)) e ∙ read-at (read a) (pos 0) (xs a) (l .loop .i) (a .pre .1 .1) (c .before .loop-test .taken))
 
 mul-t12 : tie.Need-mul-t12 Inv-loop μ-loop
 mul-t12 c = search needs

@@ -1,13 +1,13 @@
--- `runs::ends::both_wholes_read` meets its contract: by the test of the first end.
+-- `run_ends::both_wholes_read` meets its contract: by the test of the first end.
 use mathlib.Core.Path.{_≡_, sym, ap, _∙_}
 use mathlib.Core.Bool.{Bool, _&&_}
 use mir.Syntax.{w64}
 use mir.ValLaws.{toZ-ofZ}
 use Rattle.axis.specs.Axis.{readWholeOn}
-use Rattle.runs.specs.Run.{isRead}
+use Rattle.double.specs.Reading.{isRead}
 use borrow.Author.Needs.{needs}
-use Rattle.runs.proofs.ends.both_wholes_read.Statement.{statement}
-use Rattle.runs.proofs.ends.both_wholes_read.Tie as tie
+use Rattle.run_ends.proofs.both_wholes_read.Statement.{statement}
+use Rattle.run_ends.proofs.both_wholes_read.Tie as tie
 
 -- the first end, once it is settled
 first : (r : tie.After-is-read) → let s = r .before .before in (b : Bool) → r .is-read .result ≡ b → isRead (readWholeOn (s .args .axis) (s .args .a)) ≡ b

@@ -1,15 +1,15 @@
--- `runs::ends::whole_doubles_read` meets its contract: proofs/ByEnds.antt.
+-- `run_ends::whole_doubles_read` meets its contract: proofs/Between.antt.
 use mathlib.Core.Path.{sym, _∙_}
 use mathlib.Core.Bool.{_&&_, false≢true}
 use mir.Syntax.{w64}
 use mir.Val.{SFits}
 use mir.ValLaws.{toZ-ofZ}
 use Rattle.axis.specs.Axis.{readWholeOn}
-use Rattle.runs.specs.Run.{isRead}
-use Rattle.runs.proofs.ByEnds.{whole-doubles-by-ends}
+use Rattle.double.specs.Reading.{isRead}
+use Rattle.run_ends.proofs.Between.{whole-doubles-by-ends}
 use borrow.Author.Needs.{needs}
-use Rattle.runs.proofs.ends.whole_doubles_read.Statement.{statement}
-use Rattle.runs.proofs.ends.whole_doubles_read.Tie as tie
+use Rattle.run_ends.proofs.whole_doubles_read.Statement.{statement}
+use Rattle.run_ends.proofs.whole_doubles_read.Tie as tie
 
 of-whole-doubles-requires : tie.Need-of-whole-doubles-requires
 of-whole-doubles-requires c κs = search needs

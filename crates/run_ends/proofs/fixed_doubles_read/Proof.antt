@@ -1,10 +1,10 @@
--- `runs::ends::fixed_doubles_read` meets its contract: proofs/ByEnds.antt.
+-- `run_ends::fixed_doubles_read` meets its contract: proofs/Between.antt.
 use mathlib.Core.Path.{sym, _∙_}
 use mathlib.Core.Bool.{false≢true}
-use Rattle.runs.proofs.ByEnds.{doubles-by-ends}
+use Rattle.run_ends.proofs.Between.{doubles-by-ends}
 use borrow.Author.Needs.{needs}
-use Rattle.runs.proofs.ends.fixed_doubles_read.Statement.{statement}
-use Rattle.runs.proofs.ends.fixed_doubles_read.Tie as tie
+use Rattle.run_ends.proofs.fixed_doubles_read.Statement.{statement}
+use Rattle.run_ends.proofs.fixed_doubles_read.Tie as tie
 
 of-doubles-requires : tie.Need-of-doubles-requires
 of-doubles-requires c κs = search needs

@@ -1,12 +1,11 @@
-// A run checked by its ends: where the least and the greatest offset are read, every offset between them is.
+// Whether the ends of a run show that every offset is read: where the least and the greatest are, every offset between them is. Where they do
+// not show it, nothing is said.
 ghost use mathlib.Core.Path.{_≡_};
 ghost use mathlib.Core.Bool.{true, _&&_};
 ghost use Rattle.period.specs.declared.Mode.{Mode};
+ghost use Rattle.double.specs.Reading.{isRead};
 ghost use Rattle.axis.specs.Axis.{readDoubleOn, readWholeOn};
-ghost use Rattle.runs.specs.Run.{isRead, checked};
-ghost use Rattle.runs.specs.declared.Check.{Check};
-use crate::Check;
-use crate::each;
+ghost use Rattle.span.specs.Span.{Each};
 use axis_record::Axis;
 use double::Reading;
 use period::Mode;
@@ -43,7 +42,7 @@ fn both_wholes_read(axis: Axis, a: i64, b: i64) -> bool
 // Whether the ends show that every double is read in fixed mode.
 fn fixed_doubles_read(axis: Axis, source: &[f64]) -> bool
     requires { ⌜ axis .mode ≡ Mode.Fixed ⌝ }
-    ensures { λ b. ⌜ (b ≡ true → checked (readDoubleOn axis) (now (source .entry)) ≡ Check.AllRead) ⌝ }
+    ensures { λ b. ⌜ (b ≡ true → Each (λ x. isRead (readDoubleOn axis x) ≡ true) (now (source .entry))) ⌝ }
 {
     match span::of_doubles(source) {
         Doubles::NotANumber => return false,
@@ -54,7 +53,7 @@ fn fixed_doubles_read(axis: Axis, source: &[f64]) -> bool
 // The same in calendar mode, where a double must be whole.
 fn whole_doubles_read(axis: Axis, source: &[f64]) -> bool
     requires { ⌜ axis .mode ≡ Mode.Calendar ⌝ }
-    ensures { λ b. ⌜ (b ≡ true → checked (readDoubleOn axis) (now (source .entry)) ≡ Check.AllRead) ⌝ }
+    ensures { λ b. ⌜ (b ≡ true → Each (λ x. isRead (readDoubleOn axis x) ≡ true) (now (source .entry))) ⌝ }
 {
     match span::of_whole_doubles(source) {
         WholeDoubles::NotWhole => return false,
@@ -62,8 +61,8 @@ fn whole_doubles_read(axis: Axis, source: &[f64]) -> bool
     }
 }
 
-fn doubles_read(axis: Axis, source: &[f64]) -> bool
-    ensures { λ b. ⌜ (b ≡ true → checked (readDoubleOn axis) (now (source .entry)) ≡ Check.AllRead) ⌝ }
+pub fn doubles_read(axis: Axis, source: &[f64]) -> bool
+    ensures { λ b. ⌜ (b ≡ true → Each (λ x. isRead (readDoubleOn axis x) ≡ true) (now (source .entry))) ⌝ }
 {
     let mode = axis.mode;
     match mode {
@@ -72,30 +71,10 @@ fn doubles_read(axis: Axis, source: &[f64]) -> bool
     }
 }
 
-// The first refused offset; each offset is looked at only where the ends leave it open.
-pub fn check_doubles(axis: Axis, source: &[f64]) -> Check
-    ensures { λ r. ⌜ r ≡ checked (readDoubleOn axis) (now (source .entry)) ⌝ }
-{
-    if doubles_read(axis, source) {
-        return Check::AllRead;
-    }
-    return each::check_doubles(axis, source);
-}
-
 // Whether the ends show that every whole offset is read.
-fn wholes_read(axis: Axis, source: &[i64]) -> bool
-    ensures { λ b. ⌜ (b ≡ true → checked (readWholeOn axis) (now (source .entry)) ≡ Check.AllRead) ⌝ }
+pub fn wholes_read(axis: Axis, source: &[i64]) -> bool
+    ensures { λ b. ⌜ (b ≡ true → Each (λ n. isRead (readWholeOn axis n) ≡ true) (now (source .entry))) ⌝ }
 {
     let ends = span::of_wholes(source);
     both_wholes_read(axis, ends.least, ends.greatest)
-}
-
-// The first refused offset, as of doubles.
-pub fn check_wholes(axis: Axis, source: &[i64]) -> Check
-    ensures { λ r. ⌜ r ≡ checked (readWholeOn axis) (now (source .entry)) ⌝ }
-{
-    if wholes_read(axis, source) {
-        return Check::AllRead;
-    }
-    return each::check_wholes(axis, source);
 }

@@ -1,4 +1,4 @@
--- A run checked by its ends: an offset between two that are read is read, so a run whose least and greatest offset are read is read whole.
+-- An offset between two that are read is read; so a run is read whole where its least and its greatest offset are.
 use mathlib.Core.Path.{_≡_, refl, sym, ap, _∙_, subst}
 use mathlib.Core.Bool.{Bool, true, _&&_}
 use mathlib.Core.List.{List, [], _∷_}
@@ -8,7 +8,9 @@ use lib.Signed.{leZ}
 use lib.Ieee.{Float, le}
 use Rattle.signed.proofs.Tests.{and-parts}
 use Rattle.period.specs.declared.Mode.{Mode}
+use Rattle.double.specs.Reading.{isRead}
 use Rattle.double.specs.declared.Reading.{Reading}
+use Rattle.double.proofs.Answers.{was-read}
 use Rattle.fixed_axis.specs.Fixed.{readDouble}
 use Rattle.fixed_axis.proofs.Between.{double-between}
 use Rattle.axis.specs.Axis.{readDoubleOn, readWholeOn}
@@ -20,15 +22,11 @@ use Rattle.span.specs.declared.Doubles.{Doubles}
 use Rattle.span.specs.declared.Wholes.{Wholes}
 use Rattle.span.specs.declared.WholeDoubles.{WholeDoubles}
 use Rattle.span.proofs.Within.{doubles-within, wholes-within, WholeWithin, whole-doubles-within}
-use Rattle.runs.specs.declared.Check.{Check}
-use Rattle.runs.specs.Run.{isRead, after, checked}
-use Rattle.runs.proofs.Passes.{was-read}
 
--- a run of offsets that are each read
-each-read : {A : Type 0} (read : A → Reading) (P : A → Type 0) → ((x : A) → P x → isRead (read x) ≡ true) → (xs : List A) → Each P xs → checked read xs ≡ Check.AllRead
-unfolding checked
-each-read read P f [] k = refl
-each-read read P f (x ∷ xs) k = let r = was-read (read x) (f x (k .0)) in (λ i. after (r .2 i) (each-read read P f xs (k .1) i))
+-- what holds of each offset follows from what holds of each
+each-so : {A : Type 0} (P Q : A → Type 0) → ((x : A) → P x → Q x) → (xs : List A) → Each P xs → Each Q xs
+each-so P Q f [] k = tt
+each-so P Q f (x ∷ xs) k = (f x (k .0), each-so P Q f xs (k .1))
 
 -- `between` says that an offset between two that are read is read
 module _ {A : Type 0} (read : A → Reading) (AtMost : A → A → Type 0) (between : (x y z : A) (t u : ℤ) (i j : Bool) → AtMost x y → AtMost y z → read x ≡ Reading.At t i → read z ≡ Reading.At u j → isRead (read y) ≡ true) (a b : A) (h : (isRead (read a) && isRead (read b)) ≡ true) where
@@ -40,8 +38,8 @@ module _ {A : Type 0} (read : A → Reading) (AtMost : A → A → Type 0) (betw
       between a x b (l .0) (r .0) (l .1) (r .1) (f .0) (f .1) (l .2) (r .2)
 
 -- ---- doubles on a fixed axis
-pub doubles-by-ends : (axis : Axis) (xs : List Float) (a b : Float) → axis .mode ≡ Mode.Fixed → doubleSpan xs ≡ Doubles.Between a b → (isRead (readDoubleOn axis a) && isRead (readDoubleOn axis b)) ≡ true → checked (readDoubleOn axis) xs ≡ Check.AllRead
-doubles-by-ends axis xs a b m s h = each-read (readDoubleOn axis) (λ (x : Float). T (le a x) × T (le x b)) (inside (readDoubleOn axis) (λ (x y : Float). T (le x y)) between a b h) xs (doubles-within xs a b s)
+pub doubles-by-ends : (axis : Axis) (xs : List Float) (a b : Float) → axis .mode ≡ Mode.Fixed → doubleSpan xs ≡ Doubles.Between a b → (isRead (readDoubleOn axis a) && isRead (readDoubleOn axis b)) ≡ true → Each (λ (x : Float). isRead (readDoubleOn axis x) ≡ true) xs
+doubles-by-ends axis xs a b m s h = each-so (λ (x : Float). T (le a x) × T (le x b)) (λ (x : Float). isRead (readDoubleOn axis x) ≡ true) (inside (readDoubleOn axis) (λ (x y : Float). T (le x y)) between a b h) xs (doubles-within xs a b s)
   where
     between : (x y z : Float) (t u : ℤ) (i j : Bool) → T (le x y) → T (le y z) → readDoubleOn axis x ≡ Reading.At t i → readDoubleOn axis z ≡ Reading.At u j → isRead (readDoubleOn axis y) ≡ true
     between x y z t u i j f g p q =
@@ -52,10 +50,10 @@ module _ (axis : Axis) (w : Wholes) (h : (isRead (readWholeOn axis (w .least)) &
   whole-inside : (n : ℤ) → (leZ (w .least) n ≡ true) × (leZ n (w .greatest) ≡ true) → isRead (readWholeOn axis n) ≡ true
   whole-inside = inside (readWholeOn axis) (λ (x y : ℤ). leZ x y ≡ true) (λ x y z t u i j f g p q. ap isRead (whole-between axis x y z t u i j f g p q .1)) (w .least) (w .greatest) h
 
-  pub wholes-by-ends : (xs : List ℤ) → wholeSpan xs ≡ w → checked (readWholeOn axis) xs ≡ Check.AllRead
-  wholes-by-ends xs e = each-read (readWholeOn axis) (λ (n : ℤ). (leZ (w .least) n ≡ true) × (leZ n (w .greatest) ≡ true)) whole-inside xs (subst (λ (v : Wholes). Each (λ (n : ℤ). (leZ (v .least) n ≡ true) × (leZ n (v .greatest) ≡ true)) xs) e (wholes-within xs))
+  pub wholes-by-ends : (xs : List ℤ) → wholeSpan xs ≡ w → Each (λ (n : ℤ). isRead (readWholeOn axis n) ≡ true) xs
+  wholes-by-ends xs e = each-so (λ (n : ℤ). (leZ (w .least) n ≡ true) × (leZ n (w .greatest) ≡ true)) (λ (n : ℤ). isRead (readWholeOn axis n) ≡ true) whole-inside xs (subst (λ (v : Wholes). Each (λ (n : ℤ). (leZ (v .least) n ≡ true) × (leZ n (v .greatest) ≡ true)) xs) e (wholes-within xs))
 
   -- and doubles that are whole offsets, in calendar mode
-  pub whole-doubles-by-ends : (xs : List Float) → axis .mode ≡ Mode.Calendar → wholeDoubleSpan xs ≡ WholeDoubles.Between w → checked (readDoubleOn axis) xs ≡ Check.AllRead
+  pub whole-doubles-by-ends : (xs : List Float) → axis .mode ≡ Mode.Calendar → wholeDoubleSpan xs ≡ WholeDoubles.Between w → Each (λ (x : Float). isRead (readDoubleOn axis x) ≡ true) xs
   whole-doubles-by-ends xs m s =
-      each-read (readDoubleOn axis) (WholeWithin w) (λ x k. ap isRead (whole-double axis x (k .n) m (k .is)) ∙ whole-inside (k .n) (k .low, k .high)) xs (whole-doubles-within xs w s)
+      each-so (WholeWithin w) (λ (x : Float). isRead (readDoubleOn axis x) ≡ true) (λ x k. ap isRead (whole-double axis x (k .n) m (k .is)) ∙ whole-inside (k .n) (k .low, k .high)) xs (whole-doubles-within xs w s)

@@ -1,15 +1,15 @@
--- `runs::ends::wholes_read` meets its contract: proofs/ByEnds.antt.
+-- `run_ends::wholes_read` meets its contract: proofs/Between.antt.
 use mathlib.Core.Path.{sym, _∙_}
 use mathlib.Core.Bool.{_&&_}
 use mir.Syntax.{w64}
 use mir.Val.{SFits}
 use mir.ValLaws.{toZ-ofZ}
 use Rattle.axis.specs.Axis.{readWholeOn}
-use Rattle.runs.specs.Run.{isRead}
-use Rattle.runs.proofs.ByEnds.{wholes-by-ends}
+use Rattle.double.specs.Reading.{isRead}
+use Rattle.run_ends.proofs.Between.{wholes-by-ends}
 use borrow.Author.Needs.{needs}
-use Rattle.runs.proofs.ends.wholes_read.Statement.{statement}
-use Rattle.runs.proofs.ends.wholes_read.Tie as tie
+use Rattle.run_ends.proofs.wholes_read.Statement.{statement}
+use Rattle.run_ends.proofs.wholes_read.Tie as tie
 
 of-wholes-requires : tie.Need-of-wholes-requires
 of-wholes-requires c κs = search needs
