@@ -61,9 +61,10 @@ module _ (c : Calendar) (moved : ℤ → Date → Date) (between : Date → Date
       let r = moved-of c moved between S R z u j q in
       let d = moved y (dateAt c R) in
       let years = inside (year x) (year y) (year z) (year-rises x y h) (year-rises y z g) (year-inside x t l) (year-inside z u r) in
-      let there = S .there (dateAt c R) (dates-exist c (dayOf R)) y in
-      (dayNumber c d *ℤ pos 86400000000 +ℤ pos (timeOf R),
-      (λ k. cond (l .reference k) (onDay (pickDayAnswer (years k) (pickDayAnswer (there k) (DayAnswer.Is (dayNumber c d)) (DayAnswer.Refused NoSuchDate)) (DayAnswer.Refused OutOfRange)) (timeOf R)) (Reading.Refused OutOfRange)))
+      let there = S .there (dateAt c R) (dates-exist c (dayOf R)) y in (
+        dayNumber c d *ℤ pos 86400000000 +ℤ pos (timeOf R),
+        (λ k. cond (l .reference k) (onDay (pickDayAnswer (years k) (pickDayAnswer (there k) (DayAnswer.Is (dayNumber c d)) (DayAnswer.Refused NoSuchDate)) (DayAnswer.Refused OutOfRange)) (timeOf R)) (Reading.Refused OutOfRange)),
+      )
 
 -- ---- every axis
 module _ (c : Calendar) (p : Period) (R : ℤ) where

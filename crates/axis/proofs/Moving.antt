@@ -27,7 +27,8 @@ use Rattle.step.specs.Answers.{within, dateFrom}
 use Rattle.step.specs.declared.StepAnswer.{StepAnswer}
 use Rattle.step.specs.declared.reached.Part.{Part}
 use Rattle.fixed_axis.specs.declared.OffsetAnswer.{OffsetAnswer}
-use Rattle.axis.specs.Axis.{dateAt, onDay, onDate, readMoved, movedFrom, readPart, writeMoved, offsetFrom}
+use Rattle.axis.specs.Axis.{dateAt, onDay, onDate, readMoved, writeMoved, offsetFrom}
+use Rattle.axis.specs.Start.{movedFrom, readPart}
 
 -- ---- instants as readings
 abbrev pub instantReading : InstantAnswer → Reading

@@ -21,10 +21,9 @@ use Rattle.instant.specs.declared.InstantAnswer.{InstantAnswer}
 use Rattle.double.specs.Whole.{wholeOf}
 use Rattle.double.specs.declared.Reading.{Reading}
 use Rattle.double.specs.declared.whole.Whole.{Whole}
-use Rattle.step.specs.Months.{monthsAfter, yearsAfter, movedBy}
+use Rattle.step.specs.Months.{monthsAfter, yearsAfter}
 use Rattle.step.specs.Answers.{monthsBetween, yearsBetween}
 use Rattle.step.specs.declared.StepAnswer.{StepAnswer}
-use Rattle.step.specs.declared.reached.Part.{Part}
 use Rattle.fixed_axis.specs.Fixed.{fromReference, readWhole, readDouble, writeInstant}
 use Rattle.fixed_axis.specs.declared.OffsetAnswer.{OffsetAnswer}
 use Rattle.axis_record.specs.declared.Axis.{Axis}
@@ -61,14 +60,6 @@ onDate c (DateAnswer.Refused r) s = Reading.Refused r
 -- the date of the reference is moved, and its time of day is kept
 unfoldable pub readMoved : Calendar → (Date → Date) → ℤ → Reading
 readMoved c moved R = fromReference c R (onDay (dayAnswer c (moved (dateAt c R))) (timeOf R))
-
--- what n steps by a part of the date lead to from the date x, at the time of day s
-abbrev pub movedFrom : Calendar → Part → Date → ℕ → ℤ → Reading
-movedFrom c part x s n = onDay (dayAnswer c (movedBy part c n x)) s
-
--- n steps by a part of the date from the reference
-abbrev pub readPart : Calendar → Part → ℤ → ℤ → Reading
-readPart c part R n = readMoved c (movedBy part c n) R
 
 -- the number of steps between two dates as an offset; there is none where the times of day differ
 abbrev pub offsetFrom : StepAnswer → Bool → OffsetAnswer
@@ -115,15 +106,6 @@ writeIn Mode.Fixed c p R t = writeInstant c p R t
 writeIn Mode.Calendar c p R t = writeStep (stepOf p) c p R t
 
 -- ---- reading an offset
-
--- what whole offsets move on an axis
-abbrev pub stepIn : Mode → Period → Step
-stepIn Mode.Fixed p = Step.Time
-stepIn Mode.Calendar p = stepOf p
-
-abbrev pub stepOn : Axis → Step
-stepOn a = stepIn (a .mode) (a .period)
-
 unfoldable pub readWholeOn : Axis → ℤ → Reading
 readWholeOn a n = wholeIn (a .mode) (a .calendar) (a .period) (a .reference) n
 

@@ -7,8 +7,7 @@ ghost use Rattle.instant.specs.Instant.{inRange};
 ghost use Rattle.double.specs.Reading.{isRead};
 ghost use Rattle.double.specs.declared.Reading.{Reading};
 ghost use Rattle.step.specs.Closed.{Begun};
-ghost use Rattle.axis.specs.Axis.{movedFrom};
-ghost use Rattle.axis.specs.Start.{StartOf};
+ghost use Rattle.axis.specs.Start.{StartOf, movedFrom};
 use calendar::Calendar;
 use calendar::Date;
 use instant::FieldsAnswer;
@@ -64,6 +63,7 @@ pub fn instant_after(c: Calendar, part: Part, s: Start, n: i64) -> i64
 {
     let date = s.date;
     // the day counted from day -5000000
-    let k = signed::biased(step::reached::day_after(c, part, date, s.year, n)) - (0x8000_0000_0000_0000 - 5000000);
+    let k = signed::biased(step::reached::day_after(c, part, date, s.year, n))
+        - (0x8000_0000_0000_0000 - 5000000);
     signed::unbiased(k * 86400000000 + s.time + (0x8000_0000_0000_0000 - 432000000000000000))
 }

@@ -139,7 +139,13 @@ pub fn time_after(c: Calendar, p: Period, reference: i64, n: i64) -> i64
 pub fn read_double(c: Calendar, p: Period, reference: i64, x: f64) -> Reading
     ensures { λ a. ⌜ a ≡ readDouble c p reference x ⌝ }
 {
-    double::read_double(range_start(c), range_end(c), reference, period::microseconds(p), x)
+    double::read_double(
+        range_start(c),
+        range_end(c),
+        reference,
+        period::microseconds(p),
+        x,
+    )
 }
 
 // The displacement of the instant k - 2^63 from the reference r - 2^63, in periods; Inexact where something is left over.

@@ -14,7 +14,14 @@ use double::whole::Whole;
 use period::Period;
 
 // The instants, each at its own offset's place, and how many were rounded; of the range from `first` to `last`.
-fn write_between(first: i64, last: i64, reference: i64, micros: u64, source: &[f64], destination: &mut [i64]) -> usize
+fn write_between(
+    first: i64,
+    last: i64,
+    reference: i64,
+    micros: u64,
+    source: &[f64],
+    destination: &mut [i64],
+) -> usize
     requires room { ⌜ length (now source) ≤ length (now destination) ⌝ }
     requires bounds { ⌜ Bounds first last micros ⌝ }
     ensures counted { λ n. ⌜ n ≡ rounded (readBetween first last reference micros) (now (source .entry)) ⌝ }
@@ -32,14 +39,27 @@ fn write_between(first: i64, last: i64, reference: i64, micros: u64, source: &[f
 }
 
 // The same on an axis of the calendar c and the period p.
-pub fn write_doubles(c: Calendar, p: Period, reference: i64, source: &[f64], destination: &mut [i64]) -> usize
+pub fn write_doubles(
+    c: Calendar,
+    p: Period,
+    reference: i64,
+    source: &[f64],
+    destination: &mut [i64],
+) -> usize
     requires { ⌜ length (now source) ≤ length (now destination) ⌝ }
     ensures counted { λ n. ⌜ n ≡ rounded (readDouble c p reference) (now (source .entry)) ⌝ }
     ensures written { λ _. ⌜ now (destination .exit) ≡ overlaid (readDouble c p reference) (now (source .entry)) (now (destination .entry)) ⌝ }
 {
     let first = fixed_axis::range_start(c);
     let last = fixed_axis::range_end(c);
-    write_between(first, last, reference, period::microseconds(p), source, destination)
+    write_between(
+        first,
+        last,
+        reference,
+        period::microseconds(p),
+        source,
+        destination,
+    )
 }
 
 // The instants of whole offsets that are all read, each at its own offset's place.
@@ -67,7 +87,13 @@ fn instant_of(c: Calendar, p: Period, reference: i64, x: f64) -> i64
 }
 
 // The instants of doubles that are all read as whole offsets, each at its own offset's place.
-pub fn write_whole_doubles(c: Calendar, p: Period, reference: i64, source: &[f64], destination: &mut [i64])
+pub fn write_whole_doubles(
+    c: Calendar,
+    p: Period,
+    reference: i64,
+    source: &[f64],
+    destination: &mut [i64],
+)
     requires room { ⌜ length (now source) ≤ length (now destination) ⌝ }
     requires read { ⌜ checked (byWhole (readWhole c p reference)) (now source) ≡ Check.AllRead ⌝ }
     ensures { λ _. ⌜ now (destination .exit) ≡ overlaid (byWhole (readWhole c p reference)) (now (source .entry)) (now (destination .entry)) ⌝ }

@@ -93,8 +93,20 @@ fn write_whole_doubles(axis: Axis, source: &[f64], destination: &mut [i64])
     let p = axis.period;
     match axis::step_on(axis) {
         Step::Time => return fixed::write_whole_doubles(c, p, axis.reference, source, destination),
-        Step::Months => return stepped::write_doubles(c, Part::Month, axis.reference, source, destination),
-        Step::Years => return stepped::write_doubles(c, Part::Year, axis.reference, source, destination),
+        Step::Months => return stepped::write_doubles(
+            c,
+            Part::Month,
+            axis.reference,
+            source,
+            destination,
+        ),
+        Step::Years => return stepped::write_doubles(
+            c,
+            Part::Year,
+            axis.reference,
+            source,
+            destination,
+        ),
     }
 }
 
@@ -174,8 +186,20 @@ fn write_wholes(axis: Axis, source: &[i64], destination: &mut [i64])
     let p = axis.period;
     match axis::step_on(axis) {
         Step::Time => return fixed::write_wholes(c, p, axis.reference, source, destination),
-        Step::Months => return stepped::write_wholes(c, Part::Month, axis.reference, source, destination),
-        Step::Years => return stepped::write_wholes(c, Part::Year, axis.reference, source, destination),
+        Step::Months => return stepped::write_wholes(
+            c,
+            Part::Month,
+            axis.reference,
+            source,
+            destination,
+        ),
+        Step::Years => return stepped::write_wholes(
+            c,
+            Part::Year,
+            axis.reference,
+            source,
+            destination,
+        ),
     }
 }
 

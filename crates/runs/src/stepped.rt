@@ -6,7 +6,8 @@ ghost use lib.ListN.{length};
 ghost use Rattle.instant.specs.Instant.{inRange};
 ghost use Rattle.step.specs.Closed.{Begun};
 ghost use Rattle.double.specs.Reading.{instantOf, isRead};
-ghost use Rattle.axis.specs.Axis.{movedFrom, readPart, byWhole};
+ghost use Rattle.axis.specs.Axis.{byWhole};
+ghost use Rattle.axis.specs.Start.{movedFrom, readPart};
 ghost use Rattle.runs.specs.Run.{checked, overlaid};
 ghost use Rattle.runs.specs.declared.Check.{Check};
 use axis::moved::Start;
@@ -28,13 +29,25 @@ fn write_wholes_from(c: Calendar, part: Part, start: Start, source: &[i64], dest
     }
 }
 
-pub fn write_wholes(c: Calendar, part: Part, reference: i64, source: &[i64], destination: &mut [i64])
+pub fn write_wholes(
+    c: Calendar,
+    part: Part,
+    reference: i64,
+    source: &[i64],
+    destination: &mut [i64],
+)
     requires room { ⌜ length (now source) ≤ length (now destination) ⌝ }
     requires begun { ⌜ inRange c reference ≡ true ⌝ }
     requires read { ⌜ checked (readPart c part reference) (now source) ≡ Check.AllRead ⌝ }
     ensures { λ _. ⌜ now (destination .exit) ≡ overlaid (readPart c part reference) (now (source .entry)) (now (destination .entry)) ⌝ }
 {
-    write_wholes_from(c, part, axis::moved::start_of(c, reference), source, destination)
+    write_wholes_from(
+        c,
+        part,
+        axis::moved::start_of(c, reference),
+        source,
+        destination,
+    )
 }
 
 // The instant of a double that is known to be read.
@@ -50,7 +63,13 @@ fn instant_of(c: Calendar, part: Part, start: Start, x: f64) -> i64
 }
 
 // The instants of doubles that are all read, each at its own offset's place.
-fn write_doubles_from(c: Calendar, part: Part, start: Start, source: &[f64], destination: &mut [i64])
+fn write_doubles_from(
+    c: Calendar,
+    part: Part,
+    start: Start,
+    source: &[f64],
+    destination: &mut [i64],
+)
     requires room { ⌜ length (now source) ≤ length (now destination) ⌝ }
     requires begun { ⌜ Begun c (start .date) (start .year) × (start .time < 86400000000) ⌝ }
     requires read { ⌜ checked (byWhole (movedFrom c part (start .date) (start .time))) (now source) ≡ Check.AllRead ⌝ }
@@ -63,11 +82,23 @@ fn write_doubles_from(c: Calendar, part: Part, start: Start, source: &[f64], des
     }
 }
 
-pub fn write_doubles(c: Calendar, part: Part, reference: i64, source: &[f64], destination: &mut [i64])
+pub fn write_doubles(
+    c: Calendar,
+    part: Part,
+    reference: i64,
+    source: &[f64],
+    destination: &mut [i64],
+)
     requires room { ⌜ length (now source) ≤ length (now destination) ⌝ }
     requires begun { ⌜ inRange c reference ≡ true ⌝ }
     requires read { ⌜ checked (byWhole (readPart c part reference)) (now source) ≡ Check.AllRead ⌝ }
     ensures { λ _. ⌜ now (destination .exit) ≡ overlaid (byWhole (readPart c part reference)) (now (source .entry)) (now (destination .entry)) ⌝ }
 {
-    write_doubles_from(c, part, axis::moved::start_of(c, reference), source, destination)
+    write_doubles_from(
+        c,
+        part,
+        axis::moved::start_of(c, reference),
+        source,
+        destination,
+    )
 }

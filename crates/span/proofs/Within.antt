@@ -17,7 +17,7 @@ use Rattle.double.specs.declared.whole.Whole.{Whole}
 use Rattle.span.specs.declared.Doubles.{Doubles}
 use Rattle.span.specs.declared.WholeDoubles.{WholeDoubles}
 use Rattle.span.specs.declared.Wholes.{Wholes}
-use Rattle.span.specs.Span.{lesser, greater, least, greatest, Each, every, isNumber, zero, doubleSpan, wholeSpan, isWhole, whole, number, wholesIn, wholeDoubleSpan}
+use Rattle.span.specs.Span.{lesser, least, greatest, Each, every, isNumber, zero, doubleSpan, wholeSpan, isWhole, whole, number, wholesIn, wholeDoubleSpan}
 use Rattle.span.proofs.Floats.{float-trans, float-refl, float-before, float-behind}
 
 -- an order of the A that are comparable

@@ -8,7 +8,6 @@ use lib.IntN.{ℤ, pos, negsuc}
 use Rattle.calendar.specs.Calendar.{yearAfter, yearBefore, times, exists, date}
 use Rattle.calendar.specs.declared.Calendar.{Calendar}
 use Rattle.calendar.specs.declared.Date.{Date}
-use Rattle.step.specs.declared.reached.Part.{Part}
 
 -- a month of a year; months count from 1
 pub record YearMonth : Type 0 where
@@ -63,8 +62,3 @@ monthsAfter c z x = dateIn c (monthsOn c z (monthOf x)) (x .day)
 
 unfoldable pub yearsAfter : Calendar → ℤ → Date → Date
 yearsAfter c z x = dateIn c (yearMonth (yearsOn c z (x .year)) (x .month)) (x .day)
-
--- the date z steps after x, by the part of the date that they move
-abbrev pub movedBy : Part → Calendar → ℤ → Date → Date
-movedBy Part.Month = monthsAfter
-movedBy Part.Year = yearsAfter

@@ -5,8 +5,8 @@ ghost use mathlib.Core.Bool.{true};
 ghost use Prim.Native.Nat.{_<_};
 ghost use Rattle.calendar.specs.Calendar.{hasYearZero, exists, dateOf, inYears};
 ghost use Rattle.calendar.specs.Closed.{yearAt};
-ghost use Rattle.step.specs.Closed.{Begun};
-ghost use Rattle.step.specs.Months.{yearMonth, dateIn, monthsAfter, yearsAfter, movedBy};
+ghost use Rattle.step.specs.Closed.{Begun, movedBy};
+ghost use Rattle.step.specs.Months.{yearMonth, dateIn, monthsAfter, yearsAfter};
 use calendar::Calendar;
 use calendar::Date;
 
@@ -38,7 +38,12 @@ fn years_after(c: Calendar, x: Date, y: u64, n: i64) -> i64
     requires { ⌜ Begun c x y × (inYears (yearsAfter c n x .year) ≡ true) ⌝ }
     ensures { λ k. ⌜ dateOf c k ≡ yearsAfter c n x ⌝ }
 {
-    day_in(c, signed::biased(n) - (0x8000_0000_0000_0000 - y), x.month, x.day)
+    day_in(
+        c,
+        signed::biased(n) - (0x8000_0000_0000_0000 - y),
+        x.month,
+        x.day,
+    )
 }
 
 // The day number of the date that n steps lead to from x, of year y.

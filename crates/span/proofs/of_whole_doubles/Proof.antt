@@ -12,7 +12,6 @@ use mir.Val.{toZ}
 use mir.ValLaws.{toZ-ofZ}
 use Rattle.double.specs.Whole.{wholeOf}
 use Rattle.double.specs.declared.whole.Whole.{Whole}
-use Rattle.span.specs.declared.Wholes.{Wholes}
 use Rattle.span.specs.declared.WholeDoubles.{WholeDoubles}
 use Rattle.span.specs.Span.{lesser, greater, every, isWhole, whole, number, wholesIn, wholeSpan, wholeDoubleSpan}
 use Rattle.span.proofs.Pass.{Spanning, spanning-starts, spanning-on, spanning-ends, every-on, every-end}
@@ -85,11 +84,12 @@ loop-again c =
     let e = sym (w .whole-of .ensures) ∙ o .one .given .1 in
     let f = toZ-ofZ w64 n (record { sfits = c .before .before .known-told .given .0 .1 }) ∙ sym (number-at xs (l .loop .i) _ n e) in
     let low = toZ w64 (l .loop .least) in
-    let high = toZ w64 (l .loop .greatest) in
-    (spanning-on ltZ (pos 0) (wholesIn xs) low high _ _ (l .loop .i) _ (l .loop .inv .0) (placed xs (l .loop .i) h)
-      (toZ-ofZ w64 (c .before .lesser-whole .result) (record { sfits = c .before .lesser-whole .ok }) ∙ (c .before .lesser-whole .ensures ∙ ap (λ (z : ℤ). lesser ltZ z low) f))
-      (toZ-ofZ w64 (c .greater-whole .result) (record { sfits = c .greater-whole .ok }) ∙ (c .greater-whole .ensures ∙ ap (λ (z : ℤ). greater ltZ z high) f)),
-    l .loop .inv .1 ∙ every-on isWhole xs (l .loop .i) _ true h (ap whole e))
+    let high = toZ w64 (l .loop .greatest) in (
+      spanning-on ltZ (pos 0) (wholesIn xs) low high _ _ (l .loop .i) _ (l .loop .inv .0) (placed xs (l .loop .i) h)
+          (toZ-ofZ w64 (c .before .lesser-whole .result) (record { sfits = c .before .lesser-whole .ok }) ∙ (c .before .lesser-whole .ensures ∙ ap (λ (z : ℤ). lesser ltZ z low) f))
+          (toZ-ofZ w64 (c .greater-whole .result) (record { sfits = c .greater-whole .ok }) ∙ (c .greater-whole .ensures ∙ ap (λ (z : ℤ). greater ltZ z high) f)),
+      l .loop .inv .1 ∙ every-on isWhole xs (l .loop .i) _ true h (ap whole e),
+    )
 
 returns-2 : tie.Need-returns-2 Inv-loop μ-loop
 returns-2 c =

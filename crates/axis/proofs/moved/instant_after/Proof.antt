@@ -1,7 +1,7 @@
 -- `axis::moved::instant_after` meets its contract: the day that is reached, and the time of day.
 use mathlib.Core.Path.{_≡_, sym, ap, _∙_}
 use mathlib.Core.Bool.{true}
-use Prim.Native.Nat.{ℕ, _+_}
+use Prim.Native.Nat.{_+_}
 use native.Mathlib.Omega.{arith}
 use lib.IntN.{ℤ}
 use mir.Syntax.{w64}
@@ -17,7 +17,7 @@ use Rattle.calendar.proofs.Range.{Near}
 use Rattle.calendar.proofs.Theorems.{dates-exist}
 use Rattle.instant.proofs.Clock.{answered-near, raised-near, instant-at}
 use Rattle.double.specs.declared.Reading.{Reading}
-use Rattle.step.specs.Months.{movedBy}
+use Rattle.step.specs.Closed.{movedBy}
 use Rattle.axis.specs.Axis.{onDay}
 use Rattle.axis.proofs.Moving.{year-inside}
 use borrow.Author.Needs.{needs}

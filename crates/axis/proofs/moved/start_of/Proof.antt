@@ -6,7 +6,6 @@ use native.Mathlib.Omega.{arith}
 use mir.Syntax.{w64}
 use mir.ValLaws.{toZ-ofZ}
 use Rattle.calendar.specs.Answers.{dayAnswer}
-use Rattle.calendar.specs.declared.Date.{Date}
 use Rattle.calendar.specs.declared.DayAnswer.{DayAnswer}
 use Rattle.calendar.proofs.Answering.{date-there}
 use Rattle.calendar.proofs.Theorems.{dates-exist}

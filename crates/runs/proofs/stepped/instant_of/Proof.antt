@@ -7,7 +7,8 @@ use Rattle.double.specs.Reading.{instantOf}
 use Rattle.double.specs.Whole.{wholeOf}
 use Rattle.double.specs.declared.Reading.{Reading}
 use Rattle.double.specs.declared.whole.Whole.{Whole}
-use Rattle.axis.specs.Axis.{movedFrom, asWhole}
+use Rattle.axis.specs.Axis.{asWhole}
+use Rattle.axis.specs.Start.{movedFrom}
 use Rattle.double.specs.Reading.{isRead}
 use borrow.Author.Needs.{needs}
 use Rattle.runs.proofs.stepped.instant_of.Statement.{statement}

@@ -8,7 +8,7 @@ use mir.Syntax.{w64}
 use mir.ValLaws.{toZ-ofZ}
 use Rattle.double.specs.Reading.{instantOf, isRead}
 use Rattle.double.specs.declared.Reading.{Reading}
-use Rattle.axis.specs.Axis.{movedFrom}
+use Rattle.axis.specs.Start.{movedFrom}
 use Rattle.runs.proofs.Passes.{read-at, Writing, writing-starts, writing-on, writing-ends}
 use borrow.Author.Needs.{needs}
 use Rattle.runs.proofs.stepped.write_wholes_from.Statement.{statement}

@@ -7,7 +7,7 @@ use mir.Val.{toZ, ofZ}
 use mir.ValLaws.{toZ-ofZ}
 use Rattle.calendar.specs.Calendar.{dateOf, inYears}
 use Rattle.calendar.specs.declared.Date.{Date}
-use Rattle.step.specs.Months.{movedBy}
+use Rattle.step.specs.Closed.{movedBy}
 use Rattle.step.specs.declared.reached.Part.{Part}
 use borrow.Author.Needs.{needs}
 use Rattle.step.proofs.reached.day_after.Statement.{statement}
