@@ -86,11 +86,8 @@ abbrev pub asWhole : Whole → (ℤ → Reading) → Reading
 asWhole (Whole.Is n) read = read n
 asWhole (Whole.Refused r) read = Reading.Refused r
 
-abbrev pub byWhole : (ℤ → Reading) → Float → Reading
-byWhole read x = asWhole (wholeOf x) read
-
 unfoldable pub doubleAsWhole : Calendar → Period → ℤ → Float → Reading
-doubleAsWhole c p R x = fromReference c R (byWhole (readStep (stepOf p) c p R) x)
+doubleAsWhole c p R x = fromReference c R (asWhole (wholeOf x) (readStep (stepOf p) c p R))
 
 -- ---- by the mode of the axis
 abbrev pub wholeIn : Mode → Calendar → Period → ℤ → ℤ → Reading

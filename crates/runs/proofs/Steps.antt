@@ -8,8 +8,8 @@ use Rattle.instant.specs.Instant.{inRange}
 use Rattle.double.specs.Whole.{wholeOf}
 use Rattle.double.specs.declared.Reading.{Reading}
 use Rattle.double.specs.declared.whole.Whole.{Whole}
-use Rattle.axis.specs.Axis.{readStep, asWhole, byWhole, readWholeOn, readDoubleOn}
-use Rattle.axis.specs.Start.{stepOn}
+use Rattle.axis.specs.Axis.{readStep, asWhole, readWholeOn, readDoubleOn}
+use Rattle.axis.specs.Start.{stepOn, byWhole}
 use Rattle.axis.specs.declared.Step.{Step}
 use Rattle.axis.proofs.Demands.{on-step, whole-exact, whole-double, refused-double}
 use Rattle.axis_record.specs.declared.Axis.{Axis}

@@ -6,7 +6,7 @@ ghost use lib.ListN.{length};
 ghost use Rattle.double.specs.Reading.{Bounds, instantOf, isRead};
 ghost use Rattle.double.specs.Reading.{readDouble as readBetween};
 ghost use Rattle.fixed_axis.specs.Fixed.{readWhole, readDouble};
-ghost use Rattle.axis.specs.Axis.{byWhole};
+ghost use Rattle.axis.specs.Start.{byWhole};
 ghost use Rattle.runs.specs.Run.{checked, rounded, overlaid};
 ghost use Rattle.runs.specs.declared.Check.{Check};
 use calendar::Calendar;

@@ -8,7 +8,8 @@ use mir.Val.{SFits, toZ, ofZ}
 use mir.ValLaws.{toZ-ofZ}
 use Rattle.instant.specs.Instant.{inRange}
 use Rattle.double.specs.declared.Reading.{Reading}
-use Rattle.axis.specs.Axis.{readStep, byWhole, readDoubleOn}
+use Rattle.axis.specs.Axis.{readStep, readDoubleOn}
+use Rattle.axis.specs.Start.{byWhole}
 use Rattle.axis.specs.declared.Step.{Step}
 use Rattle.runs.specs.declared.Check.{Check}
 use Rattle.runs.specs.Run.{checked, overlaid}

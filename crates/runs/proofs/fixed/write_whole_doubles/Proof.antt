@@ -10,7 +10,7 @@ use mir.ValLaws.{toZ-ofZ}
 use Rattle.double.specs.Reading.{isRead}
 use Rattle.double.specs.declared.Reading.{Reading}
 use Rattle.fixed_axis.specs.Fixed.{readWhole}
-use Rattle.axis.specs.Axis.{byWhole}
+use Rattle.axis.specs.Start.{byWhole}
 use Rattle.runs.specs.Run.{overlaid}
 use Rattle.runs.proofs.Passes.{read-at, Writing, writing-starts, writing-on, writing-ends}
 use borrow.Author.Needs.{needs}

@@ -6,8 +6,7 @@ use mir.Syntax.{w64}
 use mir.ValLaws.{toZ-ofZ}
 use Rattle.instant.proofs.Theorems.{time-small}
 use Rattle.double.specs.declared.Reading.{Reading}
-use Rattle.axis.specs.Axis.{byWhole}
-use Rattle.axis.specs.Start.{StartOf, movedFrom, readPart}
+use Rattle.axis.specs.Start.{StartOf, movedFrom, readPart, byWhole}
 use Rattle.axis.proofs.Moving.{moved-from}
 use Rattle.runs.specs.Run.{checked, overlaid}
 use borrow.Author.Needs.{needs}

@@ -6,8 +6,7 @@ use lib.Ieee.{Float}
 use mir.Syntax.{w64}
 use mir.ValLaws.{toZ-ofZ}
 use Rattle.double.specs.declared.Reading.{Reading}
-use Rattle.axis.specs.Axis.{byWhole}
-use Rattle.axis.specs.Start.{movedFrom}
+use Rattle.axis.specs.Start.{movedFrom, byWhole}
 use Rattle.runs.proofs.Passes.{read-at, Writing, writing-starts, writing-on, writing-ends}
 use borrow.Author.Needs.{needs}
 use Rattle.runs.proofs.stepped.write_doubles_from.Statement.{statement}
