@@ -5,13 +5,12 @@ use lib.IntN.{ℤ, pos, negsuc, _+ℤ_, _*ℤ_}
 use lib.Signed.{leZ, ltZ}
 use Rattle.refusal.specs.declared.Refusal.the-variants.{OutOfRange, NoSuchDate}
 use Rattle.signed.proofs.Tests.{both, and-parts}
-use Rattle.signed.proofs.Order.{le-refl, le-of-lt, le-trans, lt-not-le}
+use Rattle.signed.proofs.Order.{le-refl, le-trans, lt-not-le}
 use Rattle.calendar.specs.Calendar.{inYears}
 use Rattle.calendar.specs.Answers.{dayAnswer, dayNumber, pickDayAnswer}
 use Rattle.calendar.specs.declared.Calendar.{Calendar}
 use Rattle.calendar.specs.declared.Date.{Date}
 use Rattle.calendar.specs.declared.DayAnswer.{DayAnswer}
-use Rattle.calendar.proofs.Ordered.{Before, by-year, by-month, by-day}
 use Rattle.calendar.proofs.Theorems.{dates-exist}
 use Rattle.period.specs.declared.Period.{Period}
 use Rattle.period.specs.declared.Mode.{Mode}
@@ -20,6 +19,7 @@ use Rattle.double.specs.declared.Reading.{Reading}
 use Rattle.step.specs.Months.{monthsAfter, yearsAfter}
 use Rattle.step.specs.Answers.{monthsBetween, yearsBetween}
 use Rattle.step.specs.declared.StepAnswer.{StepAnswer}
+use Rattle.step.proofs.Counts.{not-later}
 use Rattle.step.proofs.Steps.{same-number}
 use Rattle.fixed_axis.specs.Fixed.{timeAfter, readWhole}
 use Rattle.fixed_axis.proofs.Between as Fixed
@@ -33,11 +33,6 @@ abbrev Between : (ℤ → Reading) → Type 0
 Between read = (x y z t u : ℤ) (i j : Bool) → leZ x y ≡ true → leZ y z ≡ true → read x ≡ Reading.At t i → read z ≡ Reading.At u j → (v : ℤ) × (read y ≡ Reading.At v true)
 
 -- ---- months and years
-year-order : (x y : Date) → Before x y → leZ (x .year) (y .year) ≡ true
-year-order x y (by-year h) = le-of-lt (x .year) (y .year) h
-year-order x y (by-month e h) = ap (leZ (x .year)) (sym e) ∙ le-refl (x .year)
-year-order x y (by-day e f h) = ap (leZ (x .year)) (sym e) ∙ le-refl (x .year)
-
 inside : (x y z : ℤ) → leZ x y ≡ true → leZ y z ≡ true → inYears x ≡ true → inYears z ≡ true → inYears y ≡ true
 inside x y z h g p q =
     let l = and-parts (leZ (negsuc 9998) x) (leZ x (pos 9999)) p .0 in
@@ -53,7 +48,7 @@ module _ (c : Calendar) (moved : ℤ → Date → Date) (between : Date → Date
   year-rises n m h = go (ltZ n m) refl
     where
       go : (b : Bool) → ltZ n m ≡ b → leZ (year n) (year m) ≡ true
-      go true e = year-order (moved n (dateAt c R)) (moved m (dateAt c R)) (S .rise (dateAt c R) n m e)
+      go true e = not-later (moved n (dateAt c R)) (moved m (dateAt c R)) (S .rise (dateAt c R) n m e)
       go false e = ap (λ (k : ℤ). leZ (year n) (year k)) (sym (same-number n m e (lt-not-le m n ∙ ap not h))) ∙ le-refl (year n)
 
   year-inside : (n t : ℤ) → Moved c moved between S R n t → inYears (year n) ≡ true
@@ -66,9 +61,10 @@ module _ (c : Calendar) (moved : ℤ → Date → Date) (between : Date → Date
       let r = moved-of c moved between S R z u j q in
       let d = moved y (dateAt c R) in
       let years = inside (year x) (year y) (year z) (year-rises x y h) (year-rises y z g) (year-inside x t l) (year-inside z u r) in
-      let there = S .there (dateAt c R) (dates-exist c (dayOf R)) y in
-      (dayNumber c d *ℤ pos 86400000000 +ℤ pos (timeOf R),
-      (λ k. cond (l .reference k) (onDay (pickDayAnswer (years k) (pickDayAnswer (there k) (DayAnswer.Is (dayNumber c d)) (DayAnswer.Refused NoSuchDate)) (DayAnswer.Refused OutOfRange)) (timeOf R)) (Reading.Refused OutOfRange)))
+      let there = S .there (dateAt c R) (dates-exist c (dayOf R)) y in (
+        dayNumber c d *ℤ pos 86400000000 +ℤ pos (timeOf R),
+        (λ k. cond (l .reference k) (onDay (pickDayAnswer (years k) (pickDayAnswer (there k) (DayAnswer.Is (dayNumber c d)) (DayAnswer.Refused NoSuchDate)) (DayAnswer.Refused OutOfRange)) (timeOf R)) (Reading.Refused OutOfRange)),
+      )
 
 -- ---- every axis
 module _ (c : Calendar) (p : Period) (R : ℤ) where

@@ -30,7 +30,8 @@ use Rattle.fixed_axis.specs.Fixed.{readWhole, readDouble, writeInstant}
 use Rattle.fixed_axis.specs.declared.OffsetAnswer.{OffsetAnswer}
 use Rattle.fixed_axis.proofs.Offsets.{read-of}
 use Rattle.fixed_axis.proofs.Demands as Fixed
-use Rattle.axis.specs.Axis.{stepOf, stepIn, stepOn, dateAt, readStep, writeStep, asWhole, doubleAsWhole, wholeIn, doubleIn, writeIn, readWholeOn, readDoubleOn, writeInstantOn}
+use Rattle.axis.specs.Axis.{stepOf, dateAt, readStep, writeStep, asWhole, doubleAsWhole, wholeIn, doubleIn, writeIn, readWholeOn, readDoubleOn, writeInstantOn}
+use Rattle.axis.specs.Start.{stepIn, stepOn}
 use Rattle.axis.specs.Demands.{Inverse}
 use Rattle.axis_record.specs.declared.Axis.{Axis}
 use Rattle.axis.specs.declared.Step.{Step}

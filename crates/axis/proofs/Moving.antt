@@ -1,6 +1,6 @@
 -- Calendar mode from the fields of the reference: the moved date at the time of day of the reference, and the number of steps to an instant.
 use mathlib.Core.Path.{_≡_, refl, sym, ap, _∙_}
-use mathlib.Core.Bool.{Bool, true, false, _&&_, cond}
+use mathlib.Core.Bool.{Bool, true, false, _&&_, cond, false≢true}
 use Prim.Native.Nat.{ℕ}
 use native.Mathlib.Omega.{arith}
 use lib.Dec.{eqb}
@@ -21,11 +21,14 @@ use Rattle.instant.specs.declared.Fields.{Fields}
 use Rattle.instant.specs.declared.FieldsAnswer.{FieldsAnswer}
 use Rattle.instant.specs.declared.InstantAnswer.{InstantAnswer}
 use Rattle.instant.proofs.Theorems.{shown, time-of-fields, clock-of-time, time-small}
+use Rattle.double.specs.Reading.{isRead}
 use Rattle.double.specs.declared.Reading.{Reading}
 use Rattle.step.specs.Answers.{within, dateFrom}
 use Rattle.step.specs.declared.StepAnswer.{StepAnswer}
+use Rattle.step.specs.declared.reached.Part.{Part}
 use Rattle.fixed_axis.specs.declared.OffsetAnswer.{OffsetAnswer}
 use Rattle.axis.specs.Axis.{dateAt, onDay, onDate, readMoved, writeMoved, offsetFrom}
+use Rattle.axis.specs.Start.{movedFrom, readPart}
 
 -- ---- instants as readings
 abbrev pub instantReading : InstantAnswer → Reading
@@ -97,6 +100,20 @@ module _ (c : Calendar) (moved : Date → Date) (R : ℤ) where
       ∙ (ap (λ (a : DayAnswer). onDate c (dateFrom a (within (moved x))) (timeOf R)) (sym there)
       ∙ (within-years c (moved x) (timeOf R)
       ∙ ap (λ (b : Bool). cond b (onDay (dayAnswer c (moved x)) (timeOf R)) (Reading.Refused OutOfRange)) (sym (shown-in c R f h))))
+
+-- from a reference in the range
+pub moved-from : (c : Calendar) (part : Part) (R n : ℤ) → inRange c R ≡ true → movedFrom c part (dateAt c R) (timeOf R) n ≡ readPart c part R n
+unfolding readMoved
+moved-from c part R n h = ap (λ (b : Bool). cond b (movedFrom c part (dateAt c R) (timeOf R) n) (Reading.Refused OutOfRange)) (sym h)
+
+-- where a date with a time of day is read, it lies in the years
+pub year-inside : (c : Calendar) (d : Date) (s : ℕ) → isRead (onDay (dayAnswer c d) s) ≡ true → inYears (d .year) ≡ true
+unfolding dayAnswer
+year-inside c d s = go (inYears (d .year)) (pickDayAnswer (exists c d) (DayAnswer.Is (dayNumber c d)) (DayAnswer.Refused NoSuchDate))
+  where
+    go : (b : Bool) (a : DayAnswer) → isRead (onDay (pickDayAnswer b a (DayAnswer.Refused OutOfRange)) s) ≡ true → b ≡ true
+    go true a h = refl
+    go false a h = absurd (false≢true h)
 
 -- ---- writing
 module _ (c : Calendar) (between : Date → Date → StepAnswer) (R t : ℤ) where

@@ -103,15 +103,6 @@ writeIn Mode.Fixed c p R t = writeInstant c p R t
 writeIn Mode.Calendar c p R t = writeStep (stepOf p) c p R t
 
 -- ---- reading an offset
-
--- what whole offsets move on an axis
-abbrev pub stepIn : Mode → Period → Step
-stepIn Mode.Fixed p = Step.Time
-stepIn Mode.Calendar p = stepOf p
-
-abbrev pub stepOn : Axis → Step
-stepOn a = stepIn (a .mode) (a .period)
-
 unfoldable pub readWholeOn : Axis → ℤ → Reading
 readWholeOn a n = wholeIn (a .mode) (a .calendar) (a .period) (a .reference) n
 

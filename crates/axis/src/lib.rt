@@ -5,7 +5,8 @@ ghost use mathlib.Core.Bool.{true};
 ghost use Rattle.instant.specs.Instant.{isClock, clockTime, dateIn};
 ghost use Rattle.step.specs.Months.{monthsAfter, yearsAfter};
 ghost use Rattle.step.specs.Answers.{monthsBetween, yearsBetween};
-ghost use Rattle.axis.specs.Axis.{stepOf, stepOn, onDate, readMoved, writeMoved, offsetFrom, readStep, writeStep, doubleAsWhole, readWholeOn, readDoubleOn, readOffset, writeInstantOn, writeFieldsOn};
+ghost use Rattle.axis.specs.Axis.{stepOf, onDate, readMoved, writeMoved, offsetFrom, readStep, writeStep, doubleAsWhole, readWholeOn, readDoubleOn, readOffset, writeInstantOn, writeFieldsOn};
+ghost use Rattle.axis.specs.Start.{stepOn};
 use axis_record::Axis;
 use calendar::Calendar;
 use calendar::Date;
@@ -20,6 +21,8 @@ use period::Mode;
 use period::Period;
 use refusal::Refusal;
 use step::StepAnswer;
+
+pub mod moved;
 
 pub enum Offset {
     Whole(i64),

@@ -1,7 +1,7 @@
 -- What a double is read as on a fixed axis. `readDouble` computes; proofs/Demands.antt proves that its counts are those of specs/Nearest.antt.
 -- lo and hi are the first and the last count of the years -9999 to 9999, R is the reference, P the number of microseconds to the period.
 use mathlib.Core.Path.{_≡_}
-use mathlib.Core.Bool.{Bool, true, _&&_, cond}
+use mathlib.Core.Bool.{Bool, true, false, _&&_, cond}
 use Prim.Native.Nat.{ℕ, _*_, _^_, _≤_, _<_}
 use lib.IntN.{ℤ, pos, _+ℤ_}
 use lib.Signed.{mag, leZ}
@@ -23,6 +23,11 @@ numberOf (Refused r) = refusalNumber r
 abbrev pub instantOf : Reading → ℤ
 instantOf (At z exact) = z
 instantOf (Refused r) = pos 0
+
+-- whether there is an instant
+abbrev pub isRead : Reading → Bool
+isRead (At z exact) = true
+isRead (Refused r) = false
 
 -- ---- the reading
 -- the nearest count: the reference and the exact displacement, rounded to a whole number, a tie to the even one

@@ -21,7 +21,9 @@ use Rattle.period.specs.Lengths.{lengthOf}
 use Rattle.period.specs.declared.Period.{Period}
 use Rattle.period.specs.declared.Period.the-variants.{Second}
 use Rattle.instant.specs.Instant.{inRange}
+use Rattle.double.specs.Reading.{isRead}
 use Rattle.double.specs.declared.Reading.{Reading}
+use Rattle.double.proofs.Answers.{was-read}
 use Rattle.double.proofs.Range as Between
 use Rattle.fixed_axis.specs.Fixed.{timeAfter, readWhole, inPeriods, writeInstant}
 use Rattle.fixed_axis.specs.Closed.{firstInstant, lastInstant}
@@ -123,6 +125,12 @@ module _ (c : Calendar) (p : Period) (R : ℤ) where
   pub reads : (n t : ℤ) → inRange c R ≡ true → inRange c t ≡ true → timeAfter p R n ≡ t → readWhole c p R n ≡ Reading.At t true
   unfolding readWhole
   reads n t h g e = λ i. cond (h i) (cond ((ap (inRange c) e ∙ g) i) (Reading.At (e i) true) (Reading.Refused OutOfRange)) (Reading.Refused OutOfRange)
+
+  pub read-time : (n : ℤ) → isRead (readWhole c p R n) ≡ true → readWhole c p R n ≡ Reading.At (timeAfter p R n) true
+  read-time n h =
+      let w = was-read (readWhole c p R n) h in
+      let r = read-of n (w .0) (w .1) (w .2) in
+      w .2 ∙ (λ i. Reading.At (sym (r .is) i) (r .mark i))
 
   pub record Written (t n : ℤ) : Type 0 where
     pub reference : inRange c R ≡ true

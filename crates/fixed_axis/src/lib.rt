@@ -8,7 +8,7 @@ ghost use Rattle.period.specs.Lengths.{lengthOf};
 ghost use Rattle.instant.specs.Instant.{inRange};
 ghost use Rattle.fixed_axis.specs.Fixed.{timeAfter, readingAt, readWhole, readDouble, inPeriods, writeInstant};
 ghost use Rattle.fixed_axis.specs.Closed.{firstInstant, lastInstant, reachOf, Reached};
-ghost use Rattle.double.specs.declared.Reading.{Reading};
+ghost use Rattle.double.specs.Reading.{isRead};
 use calendar::Calendar;
 use double::Reading;
 use period::Period;
@@ -129,7 +129,7 @@ pub fn read_whole(c: Calendar, p: Period, reference: i64, n: i64) -> Reading
 
 // The instant of a whole offset that is known to be read: no test is left.
 pub fn time_after(c: Calendar, p: Period, reference: i64, n: i64) -> i64
-    requires { ⌜ readWhole c p reference n ≡ Reading.At (timeAfter p reference n) true ⌝ }
+    requires { ⌜ isRead (readWhole c p reference n) ≡ true ⌝ }
     ensures { λ t. ⌜ t ≡ timeAfter p reference n ⌝ }
 {
     signed::unbiased(time_raised(p, signed::biased(reference), signed::biased(n)))
@@ -139,7 +139,13 @@ pub fn time_after(c: Calendar, p: Period, reference: i64, n: i64) -> i64
 pub fn read_double(c: Calendar, p: Period, reference: i64, x: f64) -> Reading
     ensures { λ a. ⌜ a ≡ readDouble c p reference x ⌝ }
 {
-    double::read_double(range_start(c), range_end(c), reference, period::microseconds(p), x)
+    double::read_double(
+        range_start(c),
+        range_end(c),
+        reference,
+        period::microseconds(p),
+        x,
+    )
 }
 
 // The displacement of the instant k - 2^63 from the reference r - 2^63, in periods; Inexact where something is left over.

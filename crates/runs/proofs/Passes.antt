@@ -1,6 +1,6 @@
 -- The two passes over a run, one offset more at a time. The offsets are of any kind and `read` is any reading.
 use mathlib.Core.Path.{_≡_, refl, sym, ap, _∙_}
-use mathlib.Core.Bool.{Bool, true, false, cond, false≢true}
+use mathlib.Core.Bool.{Bool, true, false, cond}
 use mathlib.Core.List.{List, [], _∷_, _++_, map}
 use Prim.Native.Nat.{ℕ, zero, suc, _+_, _≤_, _<_}
 use native.Mathlib.Nat.{not-suc-le-zero, le-of-suc-le-suc}
@@ -13,10 +13,12 @@ use lib.Seq.{drop-cons, take-all}
 use borrow.Author.Tests.{lt-ltb, le-ltb, ltb-false}
 use Rattle.refusal.specs.declared.Refusal.{Refusal}
 use Rattle.refusal.specs.declared.Refusal.the-variants.{OutOfRange, NoRoom}
-use Rattle.double.specs.Reading.{instantOf}
+use Rattle.double.specs.Reading.{instantOf, isRead}
 use Rattle.double.specs.declared.Reading.{Reading}
+use Rattle.double.proofs.Answers.{was-read}
+use Rattle.span.specs.Span.{Each}
 use Rattle.runs.specs.declared.Check.{Check}
-use Rattle.runs.specs.Run.{markOf, isRead, after, checked, rounded, overlaid, runCheck}
+use Rattle.runs.specs.Run.{markOf, after, checked, rounded, overlaid, runCheck}
 
 -- the check of a run whose first i offsets are read
 abbrev pub from : ℕ → Check → Check
@@ -63,9 +65,10 @@ module _ {A : Type 0} (read : A → Reading) (xs : List A) where
   checking-ends i k h = sym (k .so-far ∙ ap (λ (l : List A). from i (checked read l)) (drop-of-length-le xs h))
 
 -- ---- what is read
-pub was-read : (r : Reading) → isRead r ≡ true → (z : ℤ) × (exact : Bool) × (r ≡ Reading.At z exact)
-was-read (Reading.At z exact) h = (z, exact, refl)
-was-read (Reading.Refused r) h = absurd (false≢true h)
+pub each-read : {A : Type 0} (read : A → Reading) (xs : List A) → Each (λ (x : A). isRead (read x) ≡ true) xs → Check.AllRead ≡ checked read xs
+unfolding checked
+each-read read [] h = refl
+each-read read (x ∷ xs) h = let r = was-read (read x) (h .0) in λ i. after (sym (r .2) i) (each-read read xs (h .1) i)
 
 -- where every offset is read, the one at each place is
 pub read-at : {A : Type 0} (read : A → Reading) (d : A) (xs : List A) (i : ℕ) → checked read xs ≡ Check.AllRead → i < length xs → isRead (read (getD xs i d)) ≡ true
@@ -162,13 +165,18 @@ module _ {A : Type 0} (read : A → Reading) (xs : List A) (room : ℕ) where
   unfolding runCheck
   by-offsets b e h = (λ i. cond (sym e i) (cond (sym (le-ltb room (length xs) h) i) (Check.Refused NoRoom 0) (checked read xs)) (Check.Refused OutOfRange 0))
 
-  -- where the run comes to nothing else, there is room and every offset is read
-  pub passed : (b : Bool) → runCheck read b xs room ≡ Check.AllRead → (length xs ≤ room) × (checked read xs ≡ Check.AllRead)
+  -- where the run comes to nothing else, the reference is in the range, there is room, and every offset is read
+  pub record Passed (b : Bool) : Type 0 where
+    pub reference : b ≡ true
+    pub fits : length xs ≤ room
+    pub all-read : checked read xs ≡ Check.AllRead
+
+  pub passed : (b : Bool) → runCheck read b xs room ≡ Check.AllRead → Passed b
   unfolding runCheck
-  passed b e = fits (ltb room (length xs)) b refl e
+  passed b e = go (ltb room (length xs)) b refl e
     where
-      fits : (t b : Bool) → ltb room (length xs) ≡ t → cond b (cond t (Check.Refused NoRoom 0) (checked read xs)) (Check.Refused OutOfRange 0) ≡ Check.AllRead → (length xs ≤ room) × (checked read xs ≡ Check.AllRead)
-      fits true true f h = absurd (let k : _≡_ {A = ℕ} 0 1 = cc in omega arith)
-      fits true false f h = absurd (let k : _≡_ {A = ℕ} 0 1 = cc in omega arith)
-      fits false false f h = absurd (let k : _≡_ {A = ℕ} 0 1 = cc in omega arith)
-      fits false true f h = (ltb-false room (length xs) f, h)
+      go : (t b : Bool) → ltb room (length xs) ≡ t → cond b (cond t (Check.Refused NoRoom 0) (checked read xs)) (Check.Refused OutOfRange 0) ≡ Check.AllRead → Passed b
+      go true true f h = absurd (let k : _≡_ {A = ℕ} 0 1 = cc in omega arith)
+      go true false f h = absurd (let k : _≡_ {A = ℕ} 0 1 = cc in omega arith)
+      go false false f h = absurd (let k : _≡_ {A = ℕ} 0 1 = cc in omega arith)
+      go false true f h = record { reference = refl; fits = ltb-false room (length xs) f; all-read = h }

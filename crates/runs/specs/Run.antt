@@ -1,6 +1,6 @@
 -- A lent run of offsets read at once, all or nothing: document 01's paragraph on runs.
 -- The offsets are of any kind A, doubles or whole numbers, and `read` is the reading of one offset alone: a run has no reading of its own.
-use mathlib.Core.Bool.{Bool, true, false, cond}
+use mathlib.Core.Bool.{Bool, cond}
 use mathlib.Core.List.{List, [], _∷_, _++_, map}
 use Prim.Native.Nat.{ℕ, suc, _+_}
 use lib.Dec.{ltb}
@@ -17,11 +17,6 @@ use Rattle.runs.specs.declared.RunAnswer.{RunAnswer}
 abbrev pub markOf : Reading → ℕ
 markOf (Reading.At z exact) = cond exact 0 1
 markOf (Reading.Refused r) = 0
-
--- whether an offset is read
-abbrev pub isRead : Reading → Bool
-isRead (Reading.At z exact) = true
-isRead (Reading.Refused r) = false
 
 -- the check of a run, with one offset more before it
 abbrev pub after : Reading → Check → Check

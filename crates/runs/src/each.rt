@@ -1,15 +1,13 @@
-// The two passes over a run, each offset by the reading of one offset: one that checks, and one that writes.
+// The pass that checks. The ends of a run mostly show that every offset is read; where they do not, each is read to find the first that is not.
 ghost use mathlib.Core.Path.{_≡_};
-ghost use Prim.Native.Nat.{_≤_};
-ghost use lib.ListN.{length};
 ghost use Rattle.axis.specs.Axis.{readDoubleOn, readWholeOn};
-ghost use Rattle.runs.specs.Run.{checked, rounded, overlaid};
+ghost use Rattle.runs.specs.Run.{checked};
 use crate::Check;
 use axis_record::Axis;
 use double::Reading;
 
 // The first refused offset.
-pub fn check_doubles(axis: Axis, source: &[f64]) -> Check
+fn first_refused_double(axis: Axis, source: &[f64]) -> Check
     ensures { λ r. ⌜ r ≡ checked (readDoubleOn axis) (now (source .entry)) ⌝ }
 {
     let mut i: usize = 0;
@@ -27,25 +25,17 @@ pub fn check_doubles(axis: Axis, source: &[f64]) -> Check
     Check::AllRead
 }
 
-// The instants, each at its own offset's place, and how many were rounded.
-pub fn write_doubles(axis: Axis, source: &[f64], destination: &mut [i64]) -> usize
-    requires { ⌜ length (now source) ≤ length (now destination) ⌝ }
-    ensures counted { λ n. ⌜ n ≡ rounded (readDoubleOn axis) (now (source .entry)) ⌝ }
-    ensures written { λ _. ⌜ now (destination .exit) ≡ overlaid (readDoubleOn axis) (now (source .entry)) (now (destination .entry)) ⌝ }
+pub fn check_doubles(axis: Axis, source: &[f64]) -> Check
+    ensures { λ r. ⌜ r ≡ checked (readDoubleOn axis) (now (source .entry)) ⌝ }
 {
-    let mut count: usize = 0;
-    let mut i: usize = 0;
-    while i < source.len() {
-        let one = axis::read_double(axis, source[i]);
-        destination[i] = crate::instant(one);
-        count += crate::mark(one);
-        i += 1;
+    if run_ends::doubles_read(axis, source) {
+        return Check::AllRead;
     }
-    count
+    return first_refused_double(axis, source);
 }
 
 // The first refused offset.
-pub fn check_wholes(axis: Axis, source: &[i64]) -> Check
+fn first_refused_whole(axis: Axis, source: &[i64]) -> Check
     ensures { λ r. ⌜ r ≡ checked (readWholeOn axis) (now (source .entry)) ⌝ }
 {
     let mut i: usize = 0;
@@ -63,15 +53,11 @@ pub fn check_wholes(axis: Axis, source: &[i64]) -> Check
     Check::AllRead
 }
 
-// The instants, each at its own offset's place.
-pub fn write_wholes(axis: Axis, source: &[i64], destination: &mut [i64])
-    requires { ⌜ length (now source) ≤ length (now destination) ⌝ }
-    ensures { λ _. ⌜ now (destination .exit) ≡ overlaid (readWholeOn axis) (now (source .entry)) (now (destination .entry)) ⌝ }
+pub fn check_wholes(axis: Axis, source: &[i64]) -> Check
+    ensures { λ r. ⌜ r ≡ checked (readWholeOn axis) (now (source .entry)) ⌝ }
 {
-    let mut i: usize = 0;
-    while i < source.len() {
-        let one = axis::read_whole(axis, source[i]);
-        destination[i] = crate::instant(one);
-        i += 1;
+    if run_ends::wholes_read(axis, source) {
+        return Check::AllRead;
     }
+    return first_refused_whole(axis, source);
 }

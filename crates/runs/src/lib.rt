@@ -1,6 +1,7 @@
 // A lent run of offsets read at once into a lent run of instants, all or nothing. A reader may rely on specs/Run.antt.
 ghost use mathlib.Core.Path.{_≡_};
-ghost use mathlib.Core.Bool.{cond};
+ghost use mathlib.Core.Bool.{true, cond};
+ghost use Rattle.period.specs.declared.Mode.{Mode};
 ghost use Rattle.instant.specs.Instant.{inRange};
 ghost use Rattle.double.specs.Reading.{instantOf};
 ghost use Rattle.axis.specs.Axis.{readDoubleOn, readWholeOn};
@@ -13,10 +14,11 @@ use axis_record::Axis;
 use double::Reading;
 use period::Mode;
 use refusal::Refusal;
+use step::reached::Part;
 
 pub mod each;
-pub mod ends;
 pub mod fixed;
+pub mod stepped;
 
 // Whether every offset of a run is read, or the first refusal and its place, counted from 0.
 pub enum Check {
@@ -71,7 +73,7 @@ fn check_doubles(axis: Axis, source: &[f64], room: usize) -> Check
                 place: 0,
             };
         }
-        return ends::check_doubles(axis, source);
+        return each::check_doubles(axis, source);
     }
     return Check::Refused {
         refusal: Refusal::OutOfRange,
@@ -79,9 +81,40 @@ fn check_doubles(axis: Axis, source: &[f64], room: usize) -> Check
     };
 }
 
+// The instants of doubles that are all read in calendar mode, where a double is whole and so exact.
+fn write_whole_doubles(axis: Axis, source: &[f64], destination: &mut [i64])
+    requires room { ⌜ length (now source) ≤ length (now destination) ⌝ }
+    requires begun { ⌜ inRange (axis .calendar) (axis .reference) ≡ true ⌝ }
+    requires calendar { ⌜ axis .mode ≡ Mode.Calendar ⌝ }
+    requires read { ⌜ checked (readDoubleOn axis) (now source) ≡ Check.AllRead ⌝ }
+    ensures { λ _. ⌜ now (destination .exit) ≡ overlaid (readDoubleOn axis) (now (source .entry)) (now (destination .entry)) ⌝ }
+{
+    let c = axis.calendar;
+    let p = axis.period;
+    match axis::step_on(axis) {
+        Step::Time => return fixed::write_whole_doubles(c, p, axis.reference, source, destination),
+        Step::Months => return stepped::write_doubles(
+            c,
+            Part::Month,
+            axis.reference,
+            source,
+            destination,
+        ),
+        Step::Years => return stepped::write_doubles(
+            c,
+            Part::Year,
+            axis.reference,
+            source,
+            destination,
+        ),
+    }
+}
+
 // The instants of doubles that are all read, and how many were rounded.
 fn write_doubles(axis: Axis, source: &[f64], destination: &mut [i64]) -> usize
-    requires { ⌜ length (now source) ≤ length (now destination) ⌝ }
+    requires room { ⌜ length (now source) ≤ length (now destination) ⌝ }
+    requires begun { ⌜ inRange (axis .calendar) (axis .reference) ≡ true ⌝ }
+    requires read { ⌜ checked (readDoubleOn axis) (now source) ≡ Check.AllRead ⌝ }
     ensures counted { λ n. ⌜ n ≡ rounded (readDoubleOn axis) (now (source .entry)) ⌝ }
     ensures written { λ _. ⌜ now (destination .exit) ≡ overlaid (readDoubleOn axis) (now (source .entry)) (now (destination .entry)) ⌝ }
 {
@@ -90,7 +123,10 @@ fn write_doubles(axis: Axis, source: &[f64], destination: &mut [i64]) -> usize
     let mode = axis.mode;
     match mode {
         Mode::Fixed => return fixed::write_doubles(c, p, axis.reference, source, destination),
-        Mode::Calendar => return each::write_doubles(axis, source, destination),
+        Mode::Calendar => {
+            write_whole_doubles(axis, source, destination);
+            return 0;
+        }
     }
 }
 
@@ -131,7 +167,7 @@ fn check_wholes(axis: Axis, source: &[i64], room: usize) -> Check
                 place: 0,
             };
         }
-        return ends::check_wholes(axis, source);
+        return each::check_wholes(axis, source);
     }
     return Check::Refused {
         refusal: Refusal::OutOfRange,
@@ -141,15 +177,29 @@ fn check_wholes(axis: Axis, source: &[i64], room: usize) -> Check
 
 // The instants of whole offsets that are all read.
 fn write_wholes(axis: Axis, source: &[i64], destination: &mut [i64])
-    requires { ⌜ (length (now source) ≤ length (now destination)) × (checked (readWholeOn axis) (now source) ≡ Check.AllRead) ⌝ }
+    requires room { ⌜ length (now source) ≤ length (now destination) ⌝ }
+    requires begun { ⌜ inRange (axis .calendar) (axis .reference) ≡ true ⌝ }
+    requires read { ⌜ checked (readWholeOn axis) (now source) ≡ Check.AllRead ⌝ }
     ensures { λ _. ⌜ now (destination .exit) ≡ overlaid (readWholeOn axis) (now (source .entry)) (now (destination .entry)) ⌝ }
 {
     let c = axis.calendar;
     let p = axis.period;
     match axis::step_on(axis) {
         Step::Time => return fixed::write_wholes(c, p, axis.reference, source, destination),
-        Step::Months => return each::write_wholes(axis, source, destination),
-        Step::Years => return each::write_wholes(axis, source, destination),
+        Step::Months => return stepped::write_wholes(
+            c,
+            Part::Month,
+            axis.reference,
+            source,
+            destination,
+        ),
+        Step::Years => return stepped::write_wholes(
+            c,
+            Part::Year,
+            axis.reference,
+            source,
+            destination,
+        ),
     }
 }
 

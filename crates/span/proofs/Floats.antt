@@ -1,7 +1,7 @@
 -- The order of doubles that are no NaN: `<=` goes on from one to the next, and of two the lesser is found by `<`. -0 and +0 are equal.
 use mathlib.Core.Path.{_≡_, sym, ap, _∙_, subst}
 use mathlib.Core.Logic.{_⊎_, inl, inr}
-use mathlib.Core.Bool.{Bool, true, false, not, _&&_, _||_, true≢false, false≢true}
+use mathlib.Core.Bool.{Bool, true, false, not, _&&_, _||_, true≢false}
 use Prim.Native.Nat.{ℕ, _+_, _*_, _≤_, _<_}
 use native.Mathlib.Nat.{le-trans, le-of-eq, le-of-lt, zero-mul, mul-right-comm, mul-le-mul-right, le-of-mul-le-mul-right, eq-of-mul-eq-mul-right}
 use native.Mathlib.Decide.{decLt}
@@ -54,9 +54,9 @@ told-le : (s : Bool) (a : ℕ) (t : Bool) (b : ℕ) → LeBy s a t b → T (belo
 told-le false a false b h = elim (decLt a b) [ yes l ↦ or-left (ltb a b) _ (lt→ltb a b l) | no n ↦ or-right (ltb a b) _ (level-in a b true (omega arith) tt) ]
 told-le false a true b h = level-in a b (eqb a 0) (h .0 ∙ sym (h .1)) (subst (λ (x : ℕ). T (eqb x 0)) (sym (h .0)) tt)
 told-le true a false b h = elim (decLt 0 (a + b)) [
-    | yes l ↦ or-left (ltb 0 (a + b)) _ (lt→ltb 0 (a + b) l)
-    | no n ↦ let z : a ≡ 0 = omega arith in or-right (ltb 0 (a + b)) _ (level-in a b (eqb a 0) (omega arith) (subst (λ (x : ℕ). T (eqb x 0)) (sym z) tt))
-  ]
+  | yes l ↦ or-left (ltb 0 (a + b)) _ (lt→ltb 0 (a + b) l)
+  | no n ↦ let z : a ≡ 0 = omega arith in or-right (ltb 0 (a + b)) _ (level-in a b (eqb a 0) (omega arith) (subst (λ (x : ℕ). T (eqb x 0)) (sym z) tt))
+]
 told-le true a true b h = elim (decLt b a) [ yes l ↦ or-left (ltb b a) _ (lt→ltb b a l) | no n ↦ or-right (ltb b a) _ (level-in a b true (omega arith) tt) ]
 
 -- ---- ±x/p <= ±y/q <= ±z/r, each test over the product of two denominators

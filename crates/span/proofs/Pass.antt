@@ -7,8 +7,7 @@ use native.Mathlib.Numerals.{add-one}
 use native.Mathlib.Omega.{arith}
 use lib.ListN.{length, drop, getD, drop-of-length-le}
 use lib.Seq.{drop-cons}
-use lib.Ieee.{Float, ne}
-use Rattle.span.specs.Span.{lesser, greater, least, greatest, numbers}
+use Rattle.span.specs.Span.{lesser, greater, least, greatest, every}
 
 module _ {A : Type 0} (before : A → A → Bool) (z : A) (xs : List A) where
   -- l and g are the ends of z and the first i offsets
@@ -36,13 +35,14 @@ module _ {A : Type 0} (before : A → A → Bool) (z : A) (xs : List A) where
   spanning-ends l g i s h =
       (sym (s .lowest ∙ ap (least before l) (drop-of-length-le xs h)), sym (s .highest ∙ ap (greatest before g) (drop-of-length-le xs h)))
 
--- one double more: a NaN, or not
-pub numbers-on : (xs : List Float) (i : ℕ) (d : Float) (b : Bool) → i < length xs → ne (getD xs i d) (getD xs i d) ≡ b → numbers (drop i xs) ≡ cond b false (numbers (drop (i + 1) xs))
-unfolding numbers
-numbers-on xs i d b h e =
-    let k : drop i xs ≡ getD xs i d ∷ drop (i + 1) xs = rw (add-one, drop-cons xs i d) in
-    ap numbers k ∙ ap (λ (t : Bool). cond t false (numbers (drop (i + 1) xs))) e
+module _ {A : Type 0} (good : A → Bool) (xs : List A) where
+  -- one offset more is tested
+  pub every-on : (i : ℕ) (d : A) (b : Bool) → i < length xs → good (getD xs i d) ≡ b → every good (drop i xs) ≡ cond b (every good (drop (i + 1) xs)) false
+  unfolding every
+  every-on i d b h e =
+      let k : drop i xs ≡ getD xs i d ∷ drop (i + 1) xs = rw (add-one, drop-cons xs i d) in
+      ap (every good) k ∙ ap (λ (t : Bool). cond t (every good (drop (i + 1) xs)) false) e
 
-pub numbers-end : (xs : List Float) (i : ℕ) → length xs ≤ i → numbers (drop i xs) ≡ true
-unfolding numbers
-numbers-end xs i h = ap numbers (drop-of-length-le xs h)
+  pub every-end : (i : ℕ) → length xs ≤ i → every good (drop i xs) ≡ true
+  unfolding every
+  every-end i h = ap (every good) (drop-of-length-le xs h)

@@ -1,12 +1,15 @@
 -- The span of a run of offsets: the least and the greatest of them and zero, by comparing alone. Zero is counted in, so an empty run has a span too.
-use mathlib.Core.Bool.{Bool, true, false, cond}
-use mathlib.Core.List.{List, [], _∷_}
+use mathlib.Core.Bool.{Bool, true, false, not, cond}
+use mathlib.Core.List.{List, [], _∷_, map}
 use lib.Dec.{T}
 use lib.IntN.{ℤ, pos}
 use lib.Signed.{ltZ}
 use lib.Ieee.{Float, fin, lt, ne}
+use Rattle.double.specs.Whole.{wholeOf}
+use Rattle.double.specs.declared.whole.Whole.{Whole}
 use Rattle.span.specs.declared.Doubles.{Doubles}
 use Rattle.span.specs.declared.Wholes.{Wholes}
+use Rattle.span.specs.declared.WholeDoubles.{WholeDoubles}
 
 module _ {A : Type 0} (before : A → A → Bool) where
   -- the lesser of two, and the second where neither comes before the other
@@ -31,16 +34,41 @@ abbrev pub Each : {A : Type 0} → (A → Type 0) → List A → Type 0
 Each P [] = T true
 Each P (x ∷ xs) = P x × Each P xs
 
--- whether no double of a run is a NaN, which alone differs from itself
-unfoldable pub numbers : List Float → Bool
-numbers [] = true
-numbers (x ∷ xs) = cond (ne x x) false (numbers xs)
+-- whether a test passes for each offset of a run
+unfoldable pub every : {A : Type 0} → (A → Bool) → List A → Bool
+every good [] = true
+every good (x ∷ xs) = cond (good x) (every good xs) false
+
+-- ---- doubles
+-- whether a double is no NaN, which alone differs from itself
+abbrev pub isNumber : Float → Bool
+isNumber x = not (ne x x)
 
 abbrev pub zero : Float
 zero = fin false 0 (pos 0)
 
 abbrev pub doubleSpan : List Float → Doubles
-doubleSpan xs = cond (numbers xs) (Doubles.Between (least lt zero xs) (greatest lt zero xs)) Doubles.NotANumber
+doubleSpan xs = cond (every isNumber xs) (Doubles.Between (least lt zero xs) (greatest lt zero xs)) Doubles.NotANumber
 
+-- ---- whole offsets
 abbrev pub wholeSpan : List ℤ → Wholes
 wholeSpan xs = record { least = least ltZ (pos 0) xs; greatest = greatest ltZ (pos 0) xs }
+
+-- ---- doubles as the whole offsets that they are, for calendar mode
+-- whether a double is a whole number of 64 bits, and which
+abbrev pub whole : Whole → Bool
+whole (Whole.Is n) = true
+whole (Whole.Refused r) = false
+
+abbrev pub isWhole : Float → Bool
+isWhole x = whole (wholeOf x)
+
+abbrev pub number : Whole → ℤ
+number (Whole.Is n) = n
+number (Whole.Refused r) = pos 0
+
+abbrev pub wholesIn : List Float → List ℤ
+wholesIn xs = map (λ (x : Float). number (wholeOf x)) xs
+
+abbrev pub wholeDoubleSpan : List Float → WholeDoubles
+wholeDoubleSpan xs = cond (every isWhole xs) (WholeDoubles.Between (wholeSpan (wholesIn xs))) WholeDoubles.NotWhole

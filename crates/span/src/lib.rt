@@ -3,7 +3,8 @@
 ghost use mathlib.Core.Path.{_≡_};
 ghost use lib.Ieee.{lt};
 ghost use lib.Signed.{ltZ};
-ghost use Rattle.span.specs.Span.{lesser, greater, doubleSpan, wholeSpan};
+ghost use Rattle.span.specs.Span.{lesser, greater, doubleSpan, wholeSpan, wholeDoubleSpan};
+use double::whole::Whole;
 
 // The ends of a run of doubles and zero; a NaN lies in no order.
 pub enum Doubles {
@@ -15,6 +16,12 @@ pub enum Doubles {
 pub struct Wholes {
     pub least: i64,
     pub greatest: i64,
+}
+
+// The ends of a run of doubles as whole offsets, and zero; a double may be none.
+pub enum WholeDoubles {
+    Between(Wholes),
+    NotWhole,
 }
 
 fn lesser_double(x: f64, y: f64) -> f64
@@ -72,4 +79,26 @@ pub fn of_wholes(source: &[i64]) -> Wholes
         i += 1;
     }
     Wholes { least, greatest }
+}
+
+pub fn of_whole_doubles(source: &[f64]) -> WholeDoubles
+    ensures { λ r. ⌜ r ≡ wholeDoubleSpan (now (source .entry)) ⌝ }
+{
+    let mut least: i64 = 0;
+    let mut greatest: i64 = 0;
+    let mut i: usize = 0;
+    while i < source.len() {
+        let one = double::whole::whole_of(source[i]);
+        match one {
+            Whole::Refused(_) => {
+                return WholeDoubles::NotWhole;
+            }
+            Whole::Is(n) => {
+                least = lesser_whole(n, least);
+                greatest = greater_whole(n, greatest);
+                i += 1;
+            }
+        }
+    }
+    WholeDoubles::Between(Wholes { least, greatest })
 }

@@ -1,7 +1,8 @@
 -- The answers, from the counts that the functions compute.
 use mathlib.Core.Path.{_≡_, refl, sym, ap, _∙_}
-use mathlib.Core.Bool.{true, false}
-use Prim.Native.Nat.{ℕ, _+_, _-_, _*_, _<_, _≤_}
+use mathlib.Core.Bool.{true, false, true≢false}
+use Prim.Native.Nat.{ℕ, _+_, _-_, _*_, _/_, _<_, _≤_}
+use native.Mathlib.Decide.{decLt}
 use native.Mathlib.Omega.{arith}
 use lib.Dec.{leb}
 use lib.IntN.{ℤ, subℕ}
@@ -73,11 +74,15 @@ abbrev pub monthCount : Date → ℕ → ℕ
 monthCount x y = 12 * y + (x .month - 1)
 
 module _ (c : Calendar) (x : Date) (y : ℕ) (g : Begun c x y) where
-  pub year-small : y < 20000
-  year-small =
+  -- a year of the range, by its count
+  counted : (u : ℕ) → inYears (yearAt (hasYearZero c) u) ≡ true → u < 20000
+  counted u h =
       let z = hasYearZero c in
-      let w = and-parts (leb (firstYear z) y) (leb y 19999) (sym (year-in z y) ∙ (ap inYears (g .year) ∙ g .inside)) in
-      omega (arith, leb-true y 19999 (w .1))
+      let w = and-parts (leb (firstYear z) u) (leb u 19999) (sym (year-in z u) ∙ h) in
+      omega (arith, leb-true u 19999 (w .1))
+
+  pub year-small : y < 20000
+  year-small = counted y (ap inYears (g .year) ∙ g .inside)
 
   pub valid : Valid c x
   valid = valid-of c x (g .there)
@@ -98,18 +103,26 @@ module _ (c : Calendar) (x : Date) (y : ℕ) (g : Begun c x y) where
   months-answered z = ap (λ (a : DayAnswer). dateFrom a (within (monthsAfter c z x))) (sym (g .numbered))
 
   module _ (k o : ℕ) (is : o ≡ 9223372036854775808 - monthCount x y) where
-    pub months-far : k < o → DateAnswer.Refused OutOfRange ≡ monthsAnswer c (lower k) x
+    months-past : k < o → inYears (monthsAfter c (lower k) x .year) ≡ false
     unfolding monthsAfter
-    months-far h =
-        outside (monthsAfter c (lower k) x)
-        (ap (λ (p : YearMonth). inYears (monthsOn c (lower k) p .year)) (sym month-counted) ∙ months-below c (monthCount x y) (lower k) (below (monthCount x y) o is (omega (arith, count-small)) k h))
-        ∙ months-answered (lower k)
+    months-past h = ap (λ (p : YearMonth). inYears (monthsOn c (lower k) p .year)) (sym month-counted) ∙ months-below c (monthCount x y) (lower k) (below (monthCount x y) o is (omega (arith, count-small)) k h)
+
+    pub months-far : k < o → DateAnswer.Refused OutOfRange ≡ monthsAnswer c (lower k) x
+    months-far h = outside (monthsAfter c (lower k) x) (months-past h) ∙ months-answered (lower k)
+
+    -- the date, by the count of its month
+    pub months-on : o ≤ k → dateIn c (monthAt c (k - o)) (x .day) ≡ monthsAfter c (lower k) x
+    unfolding monthsAfter
+    months-on h = ap (λ (p : YearMonth). dateIn c p (x .day)) (sym (months-reached (k - o)) ∙ ap (λ (z : ℤ). monthsOn c z (monthOf x)) (onward (monthCount x y) o is (omega (arith, count-small)) k h))
 
     pub months-near : o ≤ k → within (dateIn c (monthAt c (k - o)) (x .day)) ≡ monthsAnswer c (lower k) x
-    unfolding monthsAfter
-    months-near h =
-        ap (λ (p : YearMonth). within (dateIn c p (x .day))) (sym (months-reached (k - o)) ∙ ap (λ (z : ℤ). monthsOn c z (monthOf x)) (onward (monthCount x y) o is (omega (arith, count-small)) k h))
-        ∙ months-answered (lower k)
+    months-near h = ap within (months-on h) ∙ months-answered (lower k)
+
+    -- where it is known to lie in the years
+    pub months-inside : inYears (monthsAfter c (lower k) x .year) ≡ true → (o ≤ k) × ((k - o) / 12 < 20000)
+    months-inside h =
+        let l : o ≤ k = elim (decLt k o) [ yes e ↦ absurd (true≢false (sym h ∙ months-past e)) | no e ↦ omega arith ] in
+        (l, counted ((k - o) / 12) (ap (λ (d : Date). inYears (d .year)) (months-on l) ∙ h))
 
   -- ---- years
 
@@ -121,18 +134,26 @@ module _ (c : Calendar) (x : Date) (y : ℕ) (g : Begun c x y) where
   years-answered z = ap (λ (a : DayAnswer). dateFrom a (within (yearsAfter c z x))) (sym (g .numbered))
 
   module _ (k o : ℕ) (is : o ≡ 9223372036854775808 - y) where
-    pub years-far : k < o → DateAnswer.Refused OutOfRange ≡ yearsAnswer c (lower k) x
+    years-past : k < o → inYears (yearsAfter c (lower k) x .year) ≡ false
     unfolding yearsAfter
-    years-far h =
-        outside (yearsAfter c (lower k) x)
-        (ap (λ (u : ℤ). inYears (yearsOn c (lower k) u)) (sym (g .year)) ∙ years-below c y (lower k) (below y o is (omega (arith, year-small)) k h))
-        ∙ years-answered (lower k)
+    years-past h = ap (λ (u : ℤ). inYears (yearsOn c (lower k) u)) (sym (g .year)) ∙ years-below c y (lower k) (below y o is (omega (arith, year-small)) k h)
+
+    pub years-far : k < o → DateAnswer.Refused OutOfRange ≡ yearsAnswer c (lower k) x
+    years-far h = outside (yearsAfter c (lower k) x) (years-past h) ∙ years-answered (lower k)
+
+    -- the date, by the count of its year
+    pub years-on : o ≤ k → dateIn c (yearMonth (yearAt (hasYearZero c) (k - o)) (x .month)) (x .day) ≡ yearsAfter c (lower k) x
+    unfolding yearsAfter
+    years-on h = ap (λ (u : ℤ). dateIn c (yearMonth u (x .month)) (x .day)) (sym (years-reached (k - o)) ∙ ap (λ (z : ℤ). yearsOn c z (x .year)) (onward y o is (omega (arith, year-small)) k h))
 
     pub years-near : o ≤ k → within (dateIn c (yearMonth (yearAt (hasYearZero c) (k - o)) (x .month)) (x .day)) ≡ yearsAnswer c (lower k) x
-    unfolding yearsAfter
-    years-near h =
-        ap (λ (u : ℤ). within (dateIn c (yearMonth u (x .month)) (x .day))) (sym (years-reached (k - o)) ∙ ap (λ (z : ℤ). yearsOn c z (x .year)) (onward y o is (omega (arith, year-small)) k h))
-        ∙ years-answered (lower k)
+    years-near h = ap within (years-on h) ∙ years-answered (lower k)
+
+    -- where it is known to lie in the years
+    pub years-inside : inYears (yearsAfter c (lower k) x .year) ≡ true → (o ≤ k) × (k - o < 20000)
+    years-inside h =
+        let l : o ≤ k = elim (decLt k o) [ yes e ↦ absurd (true≢false (sym h ∙ years-past e)) | no e ↦ omega arith ] in
+        (l, counted (k - o) (ap (λ (d : Date). inYears (d .year)) (years-on l) ∙ h))
 
 -- a date that is refused
 module _ (c : Calendar) (x : Date) (r : Refusal) (h : dayAnswer c x ≡ DayAnswer.Refused r) where

@@ -24,7 +24,7 @@ use Rattle.step.proofs.Order.{months-rise, years-rise}
 month-eq : {p q : YearMonth} → p .year ≡ q .year → p .month ≡ q .month → p ≡ q
 month-eq a b = λ i. record { year = a i; month = b i }
 
-not-later : (x y : Date) → Before x y → leZ (x .year) (y .year) ≡ true
+pub not-later : (x y : Date) → Before x y → leZ (x .year) (y .year) ≡ true
 not-later x y (by-year u) = le-of-lt (x .year) (y .year) u
 not-later x y (by-month u v) = ap (λ (a : ℤ). leZ a (y .year)) u ∙ le-refl (y .year)
 not-later x y (by-day u v w) = ap (λ (a : ℤ). leZ a (y .year)) u ∙ le-refl (y .year)

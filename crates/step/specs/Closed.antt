@@ -10,8 +10,9 @@ use Rattle.calendar.specs.Closed.{yearAt}
 use Rattle.calendar.specs.declared.Calendar.{Calendar}
 use Rattle.calendar.specs.declared.Date.{Date}
 use Rattle.calendar.specs.declared.DayAnswer.{DayAnswer}
-use Rattle.step.specs.Months.{YearMonth, yearMonth}
+use Rattle.step.specs.Months.{YearMonth, yearMonth, monthsAfter, yearsAfter}
 use Rattle.step.specs.declared.YearAnswer.{YearAnswer}
+use Rattle.step.specs.declared.reached.Part.{Part}
 
 -- month i
 abbrev pub monthAt : Calendar → ℕ → YearMonth
@@ -29,3 +30,8 @@ pub record Begun (c : Calendar) (x : Date) (y : ℕ) : Type 0 where
 abbrev pub YearOf : Calendar → Date → YearAnswer → Type 0
 YearOf c x (YearAnswer.Is y) = Begun c x y
 YearOf c x (YearAnswer.Refused r) = dayAnswer c x ≡ DayAnswer.Refused r
+
+-- the date z steps after x, by the part of the date that they move
+abbrev pub movedBy : Part → Calendar → ℤ → Date → Date
+movedBy Part.Month = monthsAfter
+movedBy Part.Year = yearsAfter

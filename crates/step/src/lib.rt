@@ -16,6 +16,8 @@ use calendar::DayAnswer;
 use calendar::YearCount;
 use refusal::Refusal;
 
+pub mod reached;
+
 // The number of steps from one date to another, or that no number of steps leads there.
 pub enum StepAnswer {
     Is(i64),
@@ -24,13 +26,13 @@ pub enum StepAnswer {
 }
 
 // The year of a date, counted from -10000.
-enum YearAnswer {
+pub enum YearAnswer {
     Is(u64),
     Refused(Refusal),
 }
 
 // The year of a date that exists in the years -9999 to 9999.
-fn year_of(c: Calendar, x: Date) -> YearAnswer
+pub fn year_of(c: Calendar, x: Date) -> YearAnswer
     ensures { λ r. ⌜ YearOf c x r ⌝ }
 {
     match calendar::day_of_date(c, x) {

@@ -11,7 +11,7 @@ use Rattle.fixed_axis.specs.Closed.{reachOf}
 use Rattle.fixed_axis.specs.Fixed.{timeAfter}
 use Rattle.fixed_axis.proofs.Range.{near, sized}
 use Rattle.fixed_axis.proofs.Reading.{within-reach}
-use Rattle.fixed_axis.proofs.Offsets.{read-of}
+use Rattle.fixed_axis.proofs.Offsets.{read-of, read-time}
 use borrow.Author.Needs.{needs}
 use Rattle.fixed_axis.proofs.time_after.Statement.{statement}
 use Rattle.fixed_axis.proofs.time_after.Tie as tie
@@ -35,7 +35,7 @@ biased-requires-2 c κs = search needs
 time-raised-requires : tie.Need-time-raised-requires
 time-raised-requires c κs =
     let a = start c .args in
-    let r = read-of (a .c) (a .p) (a .reference) (a .n) (timeAfter (a .p) (a .reference) (a .n)) true (start c .pre) in
+    let r = read-of (a .c) (a .p) (a .reference) (a .n) (timeAfter (a .p) (a .reference) (a .n)) true (read-time (a .c) (a .p) (a .reference) (a .n) (start c .pre)) in
     let close = near (a .c) (c .before .biased .result) (ap (inRange (a .c)) (reference-is c) ∙ r .reference) in
     let w = within-reach (c .before .biased .result) (c .biased2 .result) (lengthOf (a .p)) (reachOf (a .p)) close (sized (a .p)) (a .c) ((λ i. inRange (a .c) (timeAfter (a .p) (reference-is c i) (offset-is c i))) ∙ r .inside) in
     record { reference = close; from = w .0; to = w .1 }

@@ -34,7 +34,8 @@ write-doubles-requires : tie.Need-write-doubles-requires
 write-doubles-requires c κs =
     let m = c .before .before .before in
     let a = start m in
-    passed (readDoubleOn (a .args .axis)) (a .args .source .now) (length (a .args .destination .now)) (inRange (a .args .axis .calendar) (a .args .axis .reference)) (sym (is-checked m) ∙ c .before .enum-told .given .1) .0
+    let p = passed (readDoubleOn (a .args .axis)) (a .args .source .now) (length (a .args .destination .now)) (inRange (a .args .axis .calendar) (a .args .axis .reference)) (sym (is-checked m) ∙ c .before .enum-told .given .1) in
+    (p .fits, (p .reference, p .all-read))
 
 returns : tie.Need-returns
 returns c =

@@ -1,28 +1,16 @@
 -- `runs::read_wholes` meets its contract: the answer and the destination by what the run comes to.
-use mathlib.Core.Path.{_≡_, refl, sym, ap, _∙_}
-use mathlib.Core.Bool.{Bool, cond}
+use mathlib.Core.Path.{_≡_, sym, ap, _∙_}
 use Prim.Native.Nat.{ℕ}
-use lib.IntN.{ℤ}
 use lib.ListN.{length}
 use Rattle.instant.specs.Instant.{inRange}
-use Rattle.double.specs.declared.Reading.{Reading}
 use Rattle.axis.specs.Axis.{readWholeOn}
-use Rattle.axis.proofs.Demands.{whole-exact}
-use Rattle.axis_record.specs.declared.Axis.{Axis}
 use Rattle.runs.specs.declared.Check.{Check}
-use Rattle.runs.specs.Run.{markOf, rounded, overlaid, runCheck, answerOf, chosen}
+use Rattle.runs.specs.Run.{rounded, overlaid, runCheck, answerOf, chosen}
 use Rattle.runs.proofs.Passes.{passed, none-rounded}
+use Rattle.runs.proofs.Steps.{whole-unmarked}
 use borrow.Author.Needs.{needs}
 use Rattle.runs.proofs.read_wholes.Statement.{statement}
 use Rattle.runs.proofs.read_wholes.Tie as tie
-
--- a whole offset is never rounded
-whole-unmarked : (axis : Axis) (n : ℤ) → markOf (readWholeOn axis n) ≡ 0
-whole-unmarked axis n = go (readWholeOn axis n) refl
-  where
-    go : (r : Reading) → readWholeOn axis n ≡ r → markOf r ≡ 0
-    go (Reading.At t exact) h = ap (λ (b : Bool). cond b 0 1) (whole-exact axis n t exact h)
-    go (Reading.Refused r) h = refl
 
 module _ (c : tie.After-check-wholes) where
   abbrev start : tie.Start
@@ -47,7 +35,8 @@ write-wholes-requires : tie.Need-write-wholes-requires
 write-wholes-requires c κs =
     let m = c .before .before .before in
     let a = start m in
-    passed (readWholeOn (a .args .axis)) (a .args .source .now) (length (a .args .destination .now)) (inRange (a .args .axis .calendar) (a .args .axis .reference)) (sym (is-checked m) ∙ c .before .enum-told .given .1)
+    let p = passed (readWholeOn (a .args .axis)) (a .args .source .now) (length (a .args .destination .now)) (inRange (a .args .axis .calendar) (a .args .axis .reference)) (sym (is-checked m) ∙ c .before .enum-told .given .1) in
+    (p .fits, (p .reference, p .all-read))
 
 returns : tie.Need-returns
 returns c =

@@ -1,5 +1,5 @@
 -- `runs::write_doubles` meets its contract: by the mode of the axis.
-use mathlib.Core.Path.{_≡_, ap, _∙_, sym}
+use mathlib.Core.Path.{_≡_, sym, ap, _∙_}
 use lib.IntN.{ℤ}
 use lib.Ieee.{Float}
 use mir.Syntax.{w64}
@@ -10,6 +10,8 @@ use Rattle.fixed_axis.specs.Fixed.{readDouble}
 use Rattle.axis.specs.Axis.{readDoubleOn}
 use Rattle.axis.proofs.Demands.{fixed-double}
 use Rattle.runs.specs.Run.{rounded, overlaid}
+use Rattle.runs.proofs.Passes.{none-rounded}
+use Rattle.runs.proofs.Steps.{double-unmarked}
 use borrow.Author.Needs.{needs}
 use Rattle.runs.proofs.write_doubles.Statement.{statement}
 use Rattle.runs.proofs.write_doubles.Tie as tie
@@ -39,14 +41,18 @@ returns c =
 enum-told-2 : tie.Need-enum-told-2
 enum-told-2 c = search needs
 
-write-doubles-requires-2 : tie.Need-write-doubles-requires-2
-write-doubles-requires-2 c κs = search needs
+write-whole-doubles-requires : tie.Need-write-whole-doubles-requires
+write-whole-doubles-requires c κs = search needs
 
 same-length-2 : tie.Need-same-length-2
 same-length-2 c = search needs
 
 returns-2 : tie.Need-returns-2
-returns-2 c = search needs
+returns-2 c =
+    let m = c .before .before .before in
+    let s = m .before .before .before in
+    let axis = s .args .axis in
+    (sym (none-rounded (readDoubleOn axis) (double-unmarked axis (m .enum-told2 .given .1) (s .pre .1 .0)) (s .args .source .now)), c .before .write-whole-doubles .ensures)
 
 pub write-doubles-spec : {M : Type 1} → statement M
 write-doubles-spec =
@@ -57,6 +63,6 @@ write-doubles-spec =
     same-length
     returns
     enum-told-2
-    write-doubles-requires-2
+    write-whole-doubles-requires
     same-length-2
     returns-2)

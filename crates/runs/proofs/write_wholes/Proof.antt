@@ -1,27 +1,49 @@
 -- `runs::write_wholes` meets its contract: by what the offsets move on the axis.
 use mathlib.Core.Path.{_≡_, sym, ap, _∙_}
+use mathlib.Core.Bool.{true}
 use lib.IntN.{ℤ}
 use mir.Syntax.{w64}
 use mir.Val.{SFits, toZ, ofZ}
 use mir.ValLaws.{toZ-ofZ}
+use Rattle.instant.specs.Instant.{inRange}
 use Rattle.double.specs.declared.Reading.{Reading}
-use Rattle.fixed_axis.specs.Fixed.{readWhole}
 use Rattle.axis.specs.Axis.{readStep, readWholeOn}
 use Rattle.axis.specs.declared.Step.{Step}
-use Rattle.axis.proofs.Demands.{on-step}
+use Rattle.runs.specs.declared.Check.{Check}
 use Rattle.runs.specs.Run.{checked, overlaid}
+use Rattle.runs.proofs.Steps.{read-by}
 use borrow.Author.Needs.{needs}
 use Rattle.runs.proofs.write_wholes.Statement.{statement}
 use Rattle.runs.proofs.write_wholes.Tie as tie
 
--- where offsets move the time
-timed : (m : tie.After-enum-told) → let axis = m .before .before .before .args .axis in readWholeOn axis ≡ readWhole (axis .calendar) (axis .period) (toZ w64 (ofZ w64 (axis .reference)))
-timed m =
-    let axis = m .before .before .before .args .axis in
-    let f : SFits w64 (axis .reference) = search needs in
-    let r = toZ-ofZ w64 (axis .reference) f in
-    let e = sym (m .before .before .step-on .ensures) ∙ m .enum-told .given .1 in
-    λ i n. (on-step axis n ∙ (λ j. readStep (e j) (axis .calendar) (axis .period) (sym r j) n)) i
+module _ (o : tie.After-step-on) (s : Step) (e : o .step-on .result ≡ s) where
+  abbrev start : tie.Start
+  start = o .before
+
+  -- the reference as it crosses into a call
+  abbrev crossed : ℤ
+  crossed = toZ w64 (ofZ w64 (start .args .axis .reference))
+
+  reference-is : crossed ≡ start .args .axis .reference
+  reference-is =
+      let f : SFits w64 (start .args .axis .reference) = search needs in
+      toZ-ofZ w64 (start .args .axis .reference) f
+
+  -- the reading of the offsets, once it is known what they move
+  abbrev read : ℤ → Reading
+  read = readStep s (start .args .axis .calendar) (start .args .axis .period) crossed
+
+  reading : read ≡ readWholeOn (start .args .axis)
+  reading = read-by (start .args .axis) s crossed (sym (o .step-on .ensures) ∙ e) reference-is
+
+  all-read : checked read (start .args .source .now) ≡ Check.AllRead
+  all-read = ap (λ (f : ℤ → Reading). checked f (start .args .source .now)) reading ∙ start .pre .1 .1
+
+  begun : inRange (start .args .axis .calendar) crossed ≡ true
+  begun = ap (inRange (start .args .axis .calendar)) reference-is ∙ start .pre .1 .0
+
+  written : overlaid read (start .args .source .now) (start .args .destination .now) ≡ overlaid (readWholeOn (start .args .axis)) (start .args .source .now) (start .args .destination .now)
+  written = ap (λ (f : ℤ → Reading). overlaid f (start .args .source .now) (start .args .destination .now)) reading
 
 step-on-requires : tie.Need-step-on-requires
 step-on-requires c κs = search needs
@@ -32,41 +54,46 @@ enum-told c = search needs
 write-wholes-requires : tie.Need-write-wholes-requires
 write-wholes-requires c κs =
     let m = c .before .before in
-    let s = m .before .before .before in
-    (s .pre .0, ap (λ (read : ℤ → Reading). checked read (s .args .source .now)) (sym (timed m)) ∙ s .pre .1)
+    let o = m .before .before in
+    (o .before .pre .0, all-read o Step.Time (m .enum-told .given .1))
 
 same-length : tie.Need-same-length
 same-length c = search needs
 
 returns : tie.Need-returns
-returns c =
-    let m = c .before .before .before .before in
-    let s = m .before .before .before in
-    c .before .write-wholes .ensures ∙ ap (λ (read : ℤ → Reading). overlaid read (s .args .source .now) (s .args .destination .now)) (sym (timed m))
+returns c = let m = c .before .before .before .before in c .before .write-wholes .ensures ∙ written (m .before .before) Step.Time (m .enum-told .given .1)
 
 enum-told-2 : tie.Need-enum-told-2
 enum-told-2 c = search needs
 
 write-wholes-requires-2 : tie.Need-write-wholes-requires-2
-write-wholes-requires-2 c κs = search needs
+write-wholes-requires-2 c κs =
+    let m = c .before .before in
+    let o = m .before .before in
+    let e = m .enum-told2 .given .1 in
+    (o .before .pre .0, (begun o Step.Months e, all-read o Step.Months e))
 
 same-length-2 : tie.Need-same-length-2
 same-length-2 c = search needs
 
 returns-2 : tie.Need-returns-2
-returns-2 c = search needs
+returns-2 c = let m = c .before .before .before .before in c .before .write-wholes2 .ensures ∙ written (m .before .before) Step.Months (m .enum-told2 .given .1)
 
 enum-told-3 : tie.Need-enum-told-3
 enum-told-3 c = search needs
 
 write-wholes-requires-3 : tie.Need-write-wholes-requires-3
-write-wholes-requires-3 c κs = search needs
+write-wholes-requires-3 c κs =
+    let m = c .before .before in
+    let o = m .before .before in
+    let e = m .enum-told3 .given .1 in
+    (o .before .pre .0, (begun o Step.Years e, all-read o Step.Years e))
 
 same-length-3 : tie.Need-same-length-3
 same-length-3 c = search needs
 
 returns-3 : tie.Need-returns-3
-returns-3 c = search needs
+returns-3 c = let m = c .before .before .before .before in c .before .write-wholes3 .ensures ∙ written (m .before .before) Step.Years (m .enum-told3 .given .1)
 
 pub write-wholes-spec : {M : Type 1} → statement M
 write-wholes-spec =

@@ -1,5 +1,5 @@
 -- `runs::fixed::write_wholes` meets its contract: proofs/Passes.antt, with the time of an offset that is read.
-use mathlib.Core.Path.{_≡_, sym, ap, _∙_, subst}
+use mathlib.Core.Path.{_≡_, sym, ap, _∙_}
 use mathlib.Core.Bool.{true}
 use mathlib.Core.List.{List}
 use Prim.Native.Nat.{ℕ, _-_, _<_}
@@ -8,12 +8,12 @@ use lib.ListN.{length, getD}
 use mir.Syntax.{w64}
 use mir.Val.{toZ, ofZ}
 use mir.ValLaws.{toZ-ofZ}
-use Rattle.double.specs.Reading.{instantOf}
+use Rattle.double.specs.Reading.{instantOf, isRead}
 use Rattle.double.specs.declared.Reading.{Reading}
 use Rattle.fixed_axis.specs.Fixed.{timeAfter, readWhole}
-use Rattle.fixed_axis.proofs.Offsets.{read-of}
+use Rattle.fixed_axis.proofs.Offsets.{read-time}
 use Rattle.runs.specs.Run.{overlaid}
-use Rattle.runs.proofs.Passes.{was-read, read-at, Writing, writing-starts, writing-on, writing-ends}
+use Rattle.runs.proofs.Passes.{read-at, Writing, writing-starts, writing-on, writing-ends}
 use borrow.Author.Needs.{needs}
 use Rattle.runs.proofs.fixed.write_wholes.Statement.{statement}
 use Rattle.runs.proofs.fixed.write_wholes.Tie as tie
@@ -38,11 +38,8 @@ module _ (a : tie.Start Inv-loop μ-loop) where
   same : toZ w64 (ofZ w64 (a .args .reference)) ≡ a .args .reference
   same = toZ-ofZ w64 (a .args .reference) (a .fits .reference)
 
-  time-read : (i : ℕ) (d : ℤ) → i < length xs → read (a .args .reference) (getD xs i d) ≡ Reading.At (timeAfter (a .args .p) (a .args .reference) (getD xs i d)) true
-  time-read i d h =
-      let w = was-read (read (a .args .reference) (getD xs i d)) (read-at (read (a .args .reference)) d xs i (a .pre .1) h) in
-      let r = read-of (a .args .c) (a .args .p) (a .args .reference) (getD xs i d) (w .0) (w .1) (w .2) in
-      w .2 ∙ (λ j. Reading.At (sym (r .is) j) (r .mark j))
+  placed : (i : ℕ) (d : ℤ) → i < length xs → isRead (read (a .args .reference) (getD xs i d)) ≡ true
+  placed i d h = read-at (read (a .args .reference)) d xs i (a .pre .1) h
 
 loop-holds : tie.Need-loop-holds Inv-loop μ-loop
 loop-holds c = writing-starts _ _ _ (c .pre .0)
@@ -58,7 +55,7 @@ time-after-requires c κs =
     let l = c .before .before in
     let a = l .before in
     let e = toZ-ofZ w64 (getD (xs a) (l .loop .i) (pos 0)) (record { sfits = c .time-after-arg .given }) in
-    subst (λ (p : ℤ × ℤ). read a (p .0) (p .1) ≡ Reading.At (timeAfter (a .args .p) (p .0) (p .1)) true) (λ j. (sym (same a) j, sym e j)) (time-read a (l .loop .i) (pos 0) (c .before .loop-test .taken))
+    (λ j. isRead (read a (same a j) (e j))) ∙ placed a (l .loop .i) (pos 0) (c .before .loop-test .taken)
 
 mul-t12 : tie.Need-mul-t12 Inv-loop μ-loop
 mul-t12 c = search needs
@@ -81,7 +78,7 @@ loop-again c =
     let e = toZ-ofZ w64 x (record { sfits = c .before .time-after-arg .given }) in
     let v = toZ-ofZ w64 (c .time-after .result) (record { sfits = c .time-after .ok }) in
     writing-on (read a (toZ w64 (ofZ w64 (a .args .reference)))) (xs a) (ds a) (l .loop .destination) (l .loop .i) (pos 0) _ (l .loop .inv) h
-    (v ∙ (c .time-after .ensures ∙ ((λ j. timeAfter (a .args .p) (same a j) (e j)) ∙ ap instantOf (sym (time-read a (l .loop .i) (pos 0) h) ∙ ap (λ (R : ℤ). read a R x) (sym (same a))))))
+    (v ∙ (c .time-after .ensures ∙ ((λ j. timeAfter (a .args .p) (same a j) (e j)) ∙ ap instantOf (sym (read-time (a .args .c) (a .args .p) (a .args .reference) x (placed a (l .loop .i) (pos 0) h)) ∙ ap (λ (R : ℤ). read a R x) (sym (same a))))))
 
 same-length : tie.Need-same-length Inv-loop μ-loop
 same-length c = search needs

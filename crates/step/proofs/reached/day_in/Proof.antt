@@ -1,0 +1,31 @@
+-- `step::reached::day_in` meets its contract.
+use mathlib.Core.Path.{_≡_, ap, _∙_}
+use native.Mathlib.Omega.{arith}
+use mir.Syntax.{w64}
+use mir.ValLaws.{toZ-ofZ}
+use Rattle.calendar.specs.Calendar.{hasYearZero, exists, date, dateOf}
+use Rattle.calendar.specs.Closed.{yearAt}
+use Rattle.step.specs.Months.{yearMonth, dateIn}
+use borrow.Author.Needs.{needs}
+use Rattle.step.proofs.reached.day_in.Statement.{statement}
+use Rattle.step.proofs.reached.day_in.Tie as tie
+
+-- the day that is found is the one of the definition
+found : (d : tie.After-day-down) → let a = d .before .args in let u = yearAt (hasYearZero (a .c)) (a .y) in date u (a .month) (d .day-down .result) ≡ dateIn (a .c) (yearMonth u (a .month)) (a .day)
+found d = let a = d .before .args in ap (date (yearAt (hasYearZero (a .c)) (a .y)) (a .month)) (d .day-down .ensures)
+
+day-down-requires : tie.Need-day-down-requires
+day-down-requires c κs = search needs
+
+day-in-year-requires : tie.Need-day-in-year-requires
+day-in-year-requires c κs =
+    let s = c .before in
+    (omega (arith, s .pre .0), ap (exists (s .args .c)) (found c) ∙ s .pre .1)
+
+returns : tie.Need-returns
+returns c =
+    let k = c .day-in-year in
+    ap (dateOf (c .before .before .args .c)) (toZ-ofZ w64 (k .result) (record { sfits = k .ok })) ∙ (k .ensures ∙ found (c .before))
+
+pub day-in-spec : {M : Type 1} → statement M
+day-in-spec = tie.close (tie.spec day-down-requires day-in-year-requires returns)
