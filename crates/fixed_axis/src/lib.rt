@@ -2,12 +2,14 @@
 // are total. A reader may rely on specs/Fixed.antt and on the theorems of proofs/Demands.antt.
 ghost use mathlib.Core.Path.{_≡_};
 ghost use mathlib.Core.Bool.{true};
+ghost use Prim.Native.Nat.{_+_, _-_, _<_, _^_};
 ghost use lib.IntN.{_-ℤ_};
 ghost use Rattle.signed.specs.Bias.{lower};
 ghost use Rattle.period.specs.Lengths.{lengthOf};
 ghost use Rattle.instant.specs.Instant.{inRange};
 ghost use Rattle.fixed_axis.specs.Fixed.{timeAfter, readingAt, readWhole, readDouble, inPeriods, writeInstant};
 ghost use Rattle.fixed_axis.specs.Closed.{firstInstant, lastInstant, reachOf, Reached};
+ghost use Rattle.double.specs.Nearest.{withSign};
 ghost use Rattle.double.specs.Reading.{isRead};
 use calendar::Calendar;
 use double::Reading;
@@ -148,21 +150,34 @@ pub fn read_double(c: Calendar, p: Period, reference: i64, x: f64) -> Reading
     )
 }
 
-// The displacement of the instant k - 2^63 from the reference r - 2^63, in periods; Inexact where something is left over.
+// How far two numbers lie apart.
+fn distance(r: u64, k: u64) -> u64
+    ensures { λ d. ⌜ d ≡ (k - r) + (r - k) ⌝ }
+{
+    if k < r { r - k } else { k - r }
+}
+
+// A size with its sign.
+fn signed_size(negative: bool, n: u64) -> i64
+    requires { ⌜ n < 2 ^ 63 ⌝ }
+    ensures { λ z. ⌜ z ≡ withSign negative n ⌝ }
+{
+    if negative {
+        signed::unbiased(0x8000_0000_0000_0000 - n)
+    } else {
+        signed::unbiased(0x8000_0000_0000_0000 + n)
+    }
+}
+
+// The displacement of the instant k - 2^63 from the reference r - 2^63, in periods; Inexact where something is left over. One division
+// serves both signs.
 fn periods_between(p: Period, r: u64, k: u64) -> OffsetAnswer
     ensures { λ a. ⌜ a ≡ inPeriods (lower k -ℤ lower r) (lengthOf p) ⌝ }
 {
     let micros = period::microseconds(p);
-    if k < r {
-        let before = r - k;
-        if before % micros == 0 {
-            return OffsetAnswer::Is(signed::unbiased(0x8000_0000_0000_0000 - before / micros));
-        }
-        return OffsetAnswer::Refused(Refusal::Inexact);
-    }
-    let after = k - r;
-    if after % micros == 0 {
-        return OffsetAnswer::Is(signed::unbiased(0x8000_0000_0000_0000 + after / micros));
+    let size = distance(r, k);
+    if size % micros == 0 {
+        return OffsetAnswer::Is(signed_size(k < r, size / micros));
     }
     return OffsetAnswer::Refused(Refusal::Inexact);
 }
