@@ -4,6 +4,7 @@
 --   whole-exact     a whole offset that is read is exact
 --   on-step         whole offsets move the time, the month or the year, by the axis's mode and period
 --   one-offset      two offsets never read as the same instant
+--   whole-between   a whole offset between two that are read is read, on every axis (proofs/Between.antt)
 --   month-moved, year-moved    in calendar mode the date of the instant is that of the reference, moved at once by all the steps, and the time of day is kept
 --   fixed-double    a double on an axis of fixed mode is read as crate `fixed_axis` reads it, whose proofs/Demands.antt has demand 3
 --   whole-double    in calendar mode a whole double does as the whole offset

@@ -14,6 +14,7 @@
 --   inexact-none, none-inexact     Inexact exactly where no 64-bit offset reads as the instant
 --   one-offset       two offsets never read as the same instant
 --   instant-past, only-past    an instant past the range is refused as such, and a whole offset for nothing else
+-- proofs/Between.antt: an offset between two that are read is read.
 -- Reference first: reference-whole, reference-double, reference-write.
 use mathlib.Core.Path.{_≡_, refl, sym, ap, _∙_}
 use mathlib.Core.Bool.{Bool, true, false, cond}

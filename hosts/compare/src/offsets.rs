@@ -17,12 +17,14 @@ pub fn read_whole(run: &mut Run) {
         let (axis_kind, axis) = axes::axis(&mut run.random);
         let (kind, offset) = wholes::offset(&mut run.random, axis);
         let second = boundary::read_whole(axis, offset);
+        run.on(axis, 1);
         run.judge(joined(axis_kind, kind), second.number, &(axis, offset), archive::read_whole(axis, offset), second);
     }
 }
 
 fn one_double(run: &mut Run, kind: &'static str, axis: Axis, x: f64) {
     let second = boundary::read_double(axis, x);
+    run.on(axis, 1);
     let input = (axis, x, format_args!("{:#018x}", x.to_bits()));
     run.judge(kind, second.number, &input, archive::read_double(axis, x), second);
 }

@@ -1,5 +1,6 @@
 //! The comparison of one call: its inputs' source, how many there are to be, and what came of them.
 
+use answers::Axis;
 use samples::Random;
 use std::collections::BTreeMap;
 use std::fmt::Debug;
@@ -19,6 +20,8 @@ pub struct Run {
     scale: Scale,
     start: Instant,
     kinds: BTreeMap<&'static str, Counts>,
+    /// How many offsets were tried in each calendar and mode.
+    spread: BTreeMap<(u32, u32), u64>,
     differences: u64,
     pub random: Random,
 }
@@ -31,7 +34,7 @@ impl Run {
         let seed = call.bytes().fold(1582, |seed, byte| seed * 31 + byte as u64);
         println!("{call}");
         let (start, random) = (Instant::now(), Random::seeded(seed));
-        Run { call, scale, start, kinds: BTreeMap::new(), differences: 0, random }
+        Run { call, scale, start, kinds: BTreeMap::new(), spread: BTreeMap::new(), differences: 0, random }
     }
 
     /// The number of inputs at this scale.
@@ -54,6 +57,13 @@ impl Run {
         self.kinds.entry(kind).or_default()[number.min(8) as usize] += 1;
         if ours != second {
             self.differs(kind, input, &format!("archive {ours:?}\n    second  {second:?}"));
+        }
+    }
+
+    /// Takes down so many offsets on an axis.
+    pub fn on(&mut self, axis: Axis, offsets: u64) {
+        if axis.calendar < 6 && axis.mode < 2 {
+            *self.spread.entry((axis.calendar, axis.mode)).or_default() += offsets;
         }
     }
 
@@ -87,6 +97,9 @@ impl Run {
         for (kind, counts) in &self.kinds {
             let cells: String = numbers.iter().map(|&n| format!("{:>10}", counts[n])).collect();
             println!("  {kind:40}{cells}");
+        }
+        if let (12, Some(least)) = (self.spread.len(), self.spread.values().min()) {
+            println!("  {least} offsets or more in each calendar and mode");
         }
         println!(
             "  {} inputs, {} differences, {:.1} s",

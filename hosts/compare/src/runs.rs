@@ -51,6 +51,7 @@ fn one_run<T: Copy + PartialEq + Debug>(
     calls: &Kind<T>,
 ) {
     let [from, to] = lenders;
+    run.on(input.axis, input.source.len() as u64);
     let source = from.lend(&input.source, side(&mut run.random));
     let destination = to.lend(&input.destination, side(&mut run.random));
     let ours = (calls.archive)(input.axis, source.buffer, destination.buffer);

@@ -23,10 +23,11 @@ fn instant(random: &mut Random, axis: Axis) -> (&'static str, i64) {
 }
 
 pub fn write_instant(run: &mut Run) {
-    for _ in 0..run.count(300_000, 7_000_000) {
+    for _ in 0..run.count(300_000, 14_000_000) {
         let (axis_kind, axis) = axes::axis(&mut run.random);
         let (kind, instant) = instant(&mut run.random, axis);
         let second = boundary::write_instant(axis, instant);
+        run.on(axis, 1);
         run.judge(
             joined(axis_kind, kind),
             second.number,
@@ -60,12 +61,13 @@ fn damaged(random: &mut Random, fields: Fields) -> (&'static str, Fields) {
 }
 
 pub fn write_fields(run: &mut Run) {
-    for _ in 0..run.count(300_000, 7_000_000) {
+    for _ in 0..run.count(300_000, 14_000_000) {
         let (axis_kind, axis) = axes::axis(&mut run.random);
         let (kind, instant) = instant(&mut run.random, axis);
         let good = boundary::fields_of(axis.calendar.min(5), instant).fields;
         let (kind, fields) = if run.random.one_in(2) { damaged(&mut run.random, good) } else { (kind, good) };
         let second = boundary::write_fields(axis, fields);
+        run.on(axis, 1);
         run.judge(joined(axis_kind, kind), second.number, &(axis, fields), archive::write_fields(axis, fields), second);
     }
 }
