@@ -121,7 +121,19 @@ fn of_fields(a: FieldsAnswer) -> UppinaloFieldsAnswer
     ensures { λ r. ⌜ r ≡ ofFields a ⌝ }
 {
     match a {
-        FieldsAnswer::Is(fields) => return UppinaloFieldsAnswer { number: 0, fields },
+        FieldsAnswer::Is(f) => {
+            // field by field, as of a date
+            let fields = Fields {
+                year: f.year,
+                month: f.month,
+                day: f.day,
+                hour: f.hour,
+                minute: f.minute,
+                second: f.second,
+                microsecond: f.microsecond,
+            };
+            return UppinaloFieldsAnswer { number: 0, fields };
+        }
         FieldsAnswer::Refused(r) => return no_fields(r),
     }
 }

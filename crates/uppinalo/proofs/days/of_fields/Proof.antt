@@ -1,5 +1,8 @@
 -- `uppinalo::days::of_fields` meets its contract. Assumes nothing.
 use mathlib.Core.Path.{sym, ap, _∙_}
+use mir.Syntax.{w64}
+use mir.Val.{SFits}
+use mir.ValLaws.{toZ-ofZ}
 use Rattle.uppinalo.specs.Days.{ofFields}
 use borrow.Author.Needs.{needs}
 use Rattle.uppinalo.proofs.days.of_fields.Statement.{statement}
@@ -9,7 +12,11 @@ enum-known-a : tie.Need-enum-known-a
 enum-known-a c = search needs
 
 returns : tie.Need-returns
-returns c = ap ofFields (sym (c .before .a .given .1))
+returns c =
+    let f = c .before .before .a .given .0 .0 in
+    let fits : SFits w64 (f .year) = search needs in
+    (λ i. record { number = 0; fields = record { year = toZ-ofZ w64 (f .year) fits i; month = f .month; day = f .day; hour = f .hour; minute = f .minute; second = f .second; microsecond = f .microsecond } })
+    ∙ ap ofFields (sym (c .before .before .a .given .1))
 
 enum-known-a-2 : tie.Need-enum-known-a-2
 enum-known-a-2 c = search needs
