@@ -43,6 +43,7 @@ pub fn doubles() {
     run("run of doubles, seconds, fractions", axis(0, 0, 0), false);
     run("run of doubles, hours, whole", axis(3, 3, 0), true);
     run("run of doubles, fixed months, fractions", axis(1, 6, 0), false);
+    run("run of doubles, calendar days", axis(1, 4, 1), true);
     run("run of doubles, calendar months", axis(1, 6, 1), true);
 }
 
