@@ -21,7 +21,7 @@ pub struct Start {
     pub time: u64,
 }
 
-// What stands where no reference leads.
+// For the arms that a reference in the range does not reach.
 fn none() -> Start {
     Start {
         date: Date {
@@ -34,6 +34,7 @@ fn none() -> Start {
     }
 }
 
+// The start of steps from a reference in the range.
 pub fn start_of(c: Calendar, reference: i64) -> Start
     requires { ⌜ inRange c reference ≡ true ⌝ }
     ensures { λ s. ⌜ StartOf c reference s ⌝ }

@@ -39,7 +39,7 @@ fn both_wholes_read(axis: Axis, a: i64, b: i64) -> bool
     return false;
 }
 
-// Whether the ends show that every double is read in fixed mode.
+// In fixed mode, by the order of doubles.
 fn fixed_doubles_read(axis: Axis, source: &[f64]) -> bool
     requires { ⌜ axis .mode ≡ Mode.Fixed ⌝ }
     ensures { λ b. ⌜ (b ≡ true → Each (λ x. isRead (readDoubleOn axis x) ≡ true) (now (source .entry))) ⌝ }
@@ -50,7 +50,7 @@ fn fixed_doubles_read(axis: Axis, source: &[f64]) -> bool
     }
 }
 
-// The same in calendar mode, where a double must be whole.
+// In calendar mode, where each double must be whole, by the order of whole offsets.
 fn whole_doubles_read(axis: Axis, source: &[f64]) -> bool
     requires { ⌜ axis .mode ≡ Mode.Calendar ⌝ }
     ensures { λ b. ⌜ (b ≡ true → Each (λ x. isRead (readDoubleOn axis x) ≡ true) (now (source .entry))) ⌝ }
@@ -61,6 +61,7 @@ fn whole_doubles_read(axis: Axis, source: &[f64]) -> bool
     }
 }
 
+// Whether the ends show that every double is read.
 pub fn doubles_read(axis: Axis, source: &[f64]) -> bool
     ensures { λ b. ⌜ (b ≡ true → Each (λ x. isRead (readDoubleOn axis x) ≡ true) (now (source .entry))) ⌝ }
 {

@@ -1,5 +1,5 @@
 // The day that steps lead to, where it is known to lie in the years -9999 to 9999, from a date whose year is known: a run of offsets finds
-// the year once, and no step tests anything.
+// that year once, and no step tests the range.
 ghost use mathlib.Core.Path.{_≡_};
 ghost use mathlib.Core.Bool.{true};
 ghost use Prim.Native.Nat.{_<_};
