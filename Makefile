@@ -1,5 +1,5 @@
 # What is done beside `rt`. `make test` is the gate.
-.PHONY: demo test hosts compare faults fuzz peers bench docs lib clean
+.PHONY: demo test edits hosts compare faults fuzz peers bench docs lib clean
 
 demo:     # prove and build the program `listing`, and run it on an example
 	@mkdir -p target
@@ -11,6 +11,16 @@ demo:     # prove and build the program `listing`, and run it on an example
 
 test:     # the gate: every proof, every must-fail edit, the programs and the tests from other languages
 	bash .ci/run
+
+edits:    # the must-fail edits that the gate leaves out to stay short: those in must-fail/more/
+	rt check >target/edits.log 2>&1 || { cat target/edits.log && exit 1; }
+	rm -rf target/edits && mkdir -p target/edits/target
+	cp -R crates crates.txt target/edits && cp -R target/rlib target/stamp target/log target/obj target/edits/target
+	for crate in target/edits/crates/*; do \
+		rm -f $$crate/must-fail/*.edit; \
+		[ ! -d $$crate/must-fail/more ] || mv $$crate/must-fail/more/*.edit $$crate/must-fail; \
+	done
+	cd target/edits && rt must-fail
 
 lib:      # the archive and the shared object of include/uppinalo.h
 	rt staticlib uppinalo

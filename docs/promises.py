@@ -3,8 +3,8 @@
 
     docs/promises.py
 
-- A file is one under crates/. A must-fail edit `crate/label` is a file crates/crate/must-fail/label.edit; a label alone is of the crate
-  named before it. Every edit of the repository stands in some row.
+- A file is one under crates/. A must-fail edit `crate/label` is a file label.edit of crates/crate/must-fail/ or of its folder more/; a label
+  alone is of the crate named before it. Every edit of the repository stands in some row.
 - A name in the columns spec and theorem is defined in some specs/ or proofs/ file; a function is one of some src/ file.
 """
 import pathlib
@@ -44,7 +44,7 @@ def main():
     table = list(rows())
     laws = text_of("*/specs/**/*.antt") + text_of("*/proofs/*.antt")
     source = text_of("*/src/**/*.rt")
-    there = {f"{path.parent.parent.name}/{path.stem}" for path in CRATES.glob("*/must-fail/*.edit")}
+    there = {f"{path.relative_to(CRATES).parts[0]}/{path.stem}" for path in CRATES.glob("*/must-fail/**/*.edit")}
     faults = []
     for row in table:
         for name in quoted(row["spec"]) + quoted(row["theorem"]):
