@@ -9,7 +9,7 @@ demo:     # prove and build the program `listing`, and run it on an example
 	@echo '$$ cat crates/listing/stdin' && cat crates/listing/stdin
 	@echo '$$ target/bin/listing < crates/listing/stdin' && target/bin/listing < crates/listing/stdin
 
-test:     # the gate: every proof, every must-fail edit, the programs and the tests from other languages
+test:     # the gate: every proof, must-fail edits, the programs and the tests from other languages
 	bash .ci/run
 
 edits:    # the must-fail edits that the gate leaves out to stay short: those in must-fail/more/
