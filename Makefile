@@ -13,7 +13,7 @@ test:     # the gate: every proof, must-fail edits, the programs and the tests f
 	bash .ci/run
 
 edits:    # the must-fail edits that the gate leaves out to stay short: those in must-fail/more/
-	rt check >target/edits.log 2>&1 || { cat target/edits.log && exit 1; }
+	mkdir -p target && rt check >target/edits.log 2>&1 || { cat target/edits.log && exit 1; }
 	rm -rf target/edits && mkdir -p target/edits/target
 	cp -R crates crates.txt target/edits && cp -R target/rlib target/stamp target/log target/obj target/edits/target
 	for crate in target/edits/crates/*; do \
