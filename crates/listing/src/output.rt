@@ -3,7 +3,7 @@ ghost use Prim.Native.Nat.{_+_, _≤_};
 ghost use lib.ListN.{length};
 
 // Writes out the first bytes of the buffer.
-pub fn flush(out: &[u8], used: usize) {
+pub(crate) fn flush(out: &[u8], used: usize) {
     let start: usize = 0;
     let end = crate::least(used, out.len());
     io::write_all(1, &out[start..end]);
@@ -29,8 +29,9 @@ fn put(line: &[u8], room: &mut [u8]) -> usize
 }
 
 // The answer to a gathered line. Answers how much of the buffer is used then.
-pub fn answer(line: &[u8], gathered: usize, out: &mut [u8], used: usize) -> usize
+pub(crate) fn answer(line: &[u8], gathered: usize, out: &mut [u8], used: usize) -> usize
     requires { ⌜ (64 ≤ length (now out)) × (gathered ≤ length (now line)) ⌝ }
+    ensures { λ r. ⌜ r ≤ length (now (out .entry)) ⌝ }
 {
     let start: usize = 0;
     let at = place(out, used);
