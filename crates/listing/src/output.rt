@@ -1,6 +1,9 @@
 // Answers gathered in a buffer, which is written out when it has too little room for one more.
+ghost use mathlib.Core.Path.{_≡_};
 ghost use Prim.Native.Nat.{_+_, _≤_};
 ghost use lib.ListN.{length};
+ghost use Rattle.iso_form.specs.Form.{over};
+ghost use Rattle.listing_line.specs.Line.{lineText, lengthIn};
 
 // Writes out the first bytes of the buffer.
 pub(crate) fn flush(out: &[u8], used: usize) {
@@ -23,7 +26,8 @@ fn place(out: &[u8], used: usize) -> usize
 
 // The answer to a line, at the front of the room.
 fn put(line: &[u8], room: &mut [u8]) -> usize
-    ensures { λ r. ⌜ r ≤ length (now (room .entry)) ⌝ }
+    ensures answered { λ r. ⌜ (r ≡ lengthIn (lineText (now (line .entry))) (now (room .entry))) × (r ≤ length (now (room .entry))) ⌝ }
+    ensures written { λ _. ⌜ now (room .exit) ≡ over (lineText (now (line .entry))) (now (room .entry)) ⌝ }
 {
     listing_line::answer(line, room)
 }

@@ -15,9 +15,9 @@ same-length c = search needs
 returns : tie.Need-returns
 returns c =
     let start = c .before .before .before .before .before .before in
-    let lent = start .args .room .now in
-    let within = answer-within (lineText (start .args .line .now)) lent in
-    omega (arith, c .before .before .answer .ensures .0)
+    let answered = c .before .before .answer .ensures in
+    let within = answer-within (lineText (start .args .line .now)) (start .args .room .now) in
+    ((answered .0, omega (arith, answered .0)), answered .1)
 
 pub put-spec : {M : Type 1} → statement M
 put-spec = tie.close (tie.spec answer-requires same-length returns)
