@@ -8,7 +8,7 @@ use lib.Dec.{leb, ltb}
 use lib.IntN.{ℤ, subℕ}
 use borrow.Author.Tests.{le-leb, lt-leb, leb-true, leb-false, lt-ltb, le-ltb, ltb-true}
 use Rattle.signed.specs.Bias.{lower}
-use Rattle.signed.proofs.Tests.{test-is, and-parts}
+use Rattle.signed.proofs.Tests.{test-is, both, and-parts, left-out, right-out}
 use Rattle.signed.proofs.Differences.{same-diff}
 use Rattle.calendar.specs.Calendar.{hasYearZero, inYears}
 use Rattle.calendar.specs.Closed.{yearAt}
@@ -43,7 +43,7 @@ pub far-below : (part : Part) (i k : ℕ) → i < 240000 → k < 922337203685453
 far-below Part.Month i k p q = omega arith
 far-below Part.Year i k p q = omega arith
 
-pub far-above : (part : Part) (i k : ℕ) → 9223372036855015808 ≤ k → 240000 + 9223372036854775808 * monthsOf part ≤ i + k * monthsOf part
+pub far-above : (part : Part) (i k : ℕ) → 9223372036855015808 ≤ k → 9223372036854775808 * monthsOf part + 240000 ≤ i + k * monthsOf part
 far-above Part.Month i k p = omega arith
 far-above Part.Year i k p = omega arith
 
@@ -67,21 +67,18 @@ module _ (c : Calendar) (x : Date) (y : ℕ) (g : YearOf c x y) where
       let w = and-parts (leb (firstYear z) y) (leb y 19999) (sym (year-in z y) ∙ (ap inYears (g .is) ∙ g .date .inside)) in
       omega (arith, leb-true y 19999 (w .1))
 
-  pub month-low : 1 ≤ x .month
-  month-low = valid-of c x (g .date .there) .month-low
-
-  pub month-high : x .month ≤ 12
-  month-high = valid-of c x (g .date .there) .month-high
+  pub month-inside : (y < 20000) × ((1 ≤ x .month) × (x .month ≤ 12))
+  month-inside = let v = valid-of c x (g .date .there) in (year-small, (v .month-low, v .month-high))
 
   pub count-small : monthCount y (x .month) < 240000
-  count-small = omega (arith, year-small, month-high)
+  count-small = omega (arith, month-inside)
 
   pub month-counted : monthAt c (monthCount y (x .month)) ≡ yearMonthOf x
-  month-counted = month-is c y (x .month) month-low month-high ∙ ap (λ (u : ℤ). yearMonth u (x .month)) (g .is)
+  month-counted = month-is c y (x .month) (month-inside .1 .0) (month-inside .1 .1) ∙ ap (λ (u : ℤ). yearMonth u (x .month)) (g .is)
 
   -- the date n - b steps after it
   module _ (part : Part) (n b : ℕ) where
-    pub year-below : monthCount y (x .month) + n * monthsOf part < b * monthsOf part → inYears (dateAfter part c (subℕ n b) x .year) ≡ false
+    year-below : monthCount y (x .month) + n * monthsOf part < b * monthsOf part → inYears (dateAfter part c (subℕ n b) x .year) ≡ false
     unfolding dateAfter
     year-below h = ap (λ (p : YearMonth). inYears (monthReached part c (subℕ n b) p .year)) (sym month-counted) ∙ months-below c part n b (monthCount y (x .month)) h
 
@@ -90,8 +87,27 @@ module _ (c : Calendar) (x : Date) (y : ℕ) (g : YearOf c x y) where
       unfolding dateAfter
       date-at = ap (λ (p : YearMonth). dateDown c p (x .day)) (sym (months-at c part n b (monthCount y (x .month)) j e) ∙ ap (monthReached part c (subℕ n b)) month-counted)
 
-      pub year-at : inYears (dateAfter part c (subℕ n b) x .year) ≡ (leb (12 * firstYear (hasYearZero c)) j && ltb j 240000)
+      year-at : inYears (dateAfter part c (subℕ n b) x .year) ≡ (leb (12 * firstYear (hasYearZero c)) j && ltb j 240000)
       year-at = ap (λ (d : Date). inYears (d .year)) (sym date-at) ∙ month-in (hasYearZero c) j
+
+    -- the tests of its month against the first and the last of the years
+    pub year-before : monthCount y (x .month) + n * monthsOf part < b * monthsOf part + 12 * firstYear (hasYearZero c) → inYears (dateAfter part c (subℕ n b) x .year) ≡ false
+    year-before h =
+        let j = monthCount y (x .month) + n * monthsOf part - b * monthsOf part in
+        elim (decLt (monthCount y (x .month) + n * monthsOf part) (b * monthsOf part)) [
+          | yes e ↦ year-below e
+          | no e ↦ year-at j (omega arith) ∙ left-out (leb (12 * firstYear (hasYearZero c)) j) (ltb j 240000) (lt-leb (12 * firstYear (hasYearZero c)) j (omega arith))
+        ]
+
+    pub year-past : b * monthsOf part + 240000 ≤ monthCount y (x .month) + n * monthsOf part → inYears (dateAfter part c (subℕ n b) x .year) ≡ false
+    year-past h =
+        let j = monthCount y (x .month) + n * monthsOf part - b * monthsOf part in
+        year-at j (omega arith) ∙ right-out (leb (12 * firstYear (hasYearZero c)) j) (ltb j 240000) (le-ltb j 240000 (omega arith))
+
+    pub year-between : b * monthsOf part + 12 * firstYear (hasYearZero c) ≤ monthCount y (x .month) + n * monthsOf part → monthCount y (x .month) + n * monthsOf part < b * monthsOf part + 240000 → inYears (dateAfter part c (subℕ n b) x .year) ≡ true
+    year-between h g =
+        let j = monthCount y (x .month) + n * monthsOf part - b * monthsOf part in
+        year-at j (omega arith) ∙ both (leb (12 * firstYear (hasYearZero c)) j) (ltb j 240000) (le-leb (12 * firstYear (hasYearZero c)) j (omega arith)) (lt-ltb j 240000 (omega arith))
 
     -- where it is known to lie in the years
     pub record Inside : Type 0 where

@@ -98,7 +98,7 @@ module _ (c : Calendar) where
       let q = monthReached part c (subℕ 0 (w .q)) (monthAt c i) in
       let zeroth : w .r / 12 ≡ 0 = omega (arith, w .small) in
       let less : ltZ (subℕ n b) (subℕ 0 (w .q)) ≡ true =
-          (λ k. ltZ (same-diff n b (n + w .q) (b + w .q) (omega arith) k) (same-diff 0 (w .q) b (b + w .q) (omega arith) k)) ∙ (sub-lt (n + w .q) b (b + w .q) ∙ lt-ltb (n + w .q) b (w .further)) in
+      (λ k. ltZ (same-diff n b (n + w .q) (b + w .q) (omega arith) k) (same-diff 0 (w .q) b (b + w .q) (omega arith) k)) ∙ (sub-lt (n + w .q) b (b + w .q) ∙ lt-ltb (n + w .q) b (w .further)) in
       too-early (hasYearZero c) (p .year)
       (ap (leZ (p .year)) (sym (ap (λ (r : YearMonth). r .year) (months-at part 0 (w .q) i (w .r) (w .reached)) ∙ ap (yearAt (hasYearZero c)) zeroth))
       ∙ not-later (date (p .year) (p .month) 0) (date (q .year) (q .month) 0) (months-rise c part (monthAt c i) (subℕ n b) (subℕ 0 (w .q)) less))

@@ -69,7 +69,7 @@ fn raised_month(part: Part, i: u64, k: u64) -> u64
 
 // The least year that is not below -9999.
 fn first_year(c: Calendar) -> u64
-    ensures { λ y. ⌜ y ≡ cond (hasYearZero c) 1 2 ⌝ }
+    ensures { λ y. ⌜ (y ≡ cond (hasYearZero c) 1 2) × (y ≤ 2) ⌝ }
 {
     if calendar::has_year_zero(c) {
         return 1;

@@ -1,6 +1,20 @@
+-- `step::day_in` meets its contract. Assumes nothing.
+use mathlib.Core.Path.{_≡_, ap, _∙_}
+use Prim.Native.Nat.{_+_, _/_, _%_}
+use native.Mathlib.Omega.{arith}
+use mir.Syntax.{w64}
+use mir.ValLaws.{toZ-ofZ}
+use Rattle.calendar.specs.Calendar.{hasYearZero, exists, date, dateOf}
+use Rattle.calendar.specs.Closed.{yearAt}
+use Rattle.step.specs.Closed.{monthAt}
+use Rattle.step.specs.Steps.{dateDown}
 use borrow.Author.Needs.{needs}
 use Rattle.step.proofs.day_in.Statement.{statement}
 use Rattle.step.proofs.day_in.Tie as tie
+
+-- the day that is found is the one of the definition
+found : (d : tie.After-day-down) → let a = d .before .args in date (yearAt (hasYearZero (a .c)) (a .i / 12)) (a .i % 12 + 1) (d .day-down .result) ≡ dateDown (a .c) (monthAt (a .c) (a .i)) (a .day)
+found d = let a = d .before .args in ap (date (yearAt (hasYearZero (a .c)) (a .i / 12)) (a .i % 12 + 1)) (d .day-down .ensures)
 
 add-month : tie.Need-add-month
 add-month c = search needs
@@ -12,10 +26,14 @@ day-down-requires : tie.Need-day-down-requires
 day-down-requires c κs = search needs
 
 day-in-year-requires : tie.Need-day-in-year-requires
-day-in-year-requires c κs = ?
+day-in-year-requires c κs =
+    let s = c .before in
+    (omega (arith, s .pre .0), ap (exists (s .args .c)) (found c) ∙ s .pre .1)
 
 returns : tie.Need-returns
-returns c = ?
+returns c =
+    let k = c .day-in-year in
+    ap (dateOf (c .before .before .args .c)) (toZ-ofZ w64 (k .result) (record { sfits = k .ok })) ∙ (k .ensures ∙ found (c .before))
 
 pub day-in-spec : {M : Type 1} → statement M
 day-in-spec =
