@@ -20,8 +20,8 @@ use Rattle.refusal.specs.declared.Refusal.{Refusal}
 use Rattle.refusal.specs.declared.Refusal.the-variants.{OutOfRange, NotFinite}
 use Rattle.signed.proofs.Tests.{both, and-parts}
 use Rattle.signed.proofs.Order.{le-trans}
-use Rattle.double.specs.declared.Reading.{Reading}
-use Rattle.double.specs.declared.Reading.the-variants.{At, Refused}
+use Rattle.axis_types.specs.declared.Reading.{Reading}
+use Rattle.axis_types.specs.declared.Reading.the-variants.{At, Refused}
 use Rattle.double.specs.Nearest.{exactSize, distance, IsNearest}
 use Rattle.double.specs.Reading.{nearestCount, inRange, ranged, readFloat, readDouble, Demand3}
 use Rattle.double.proofs.Distance.{count-nearest, count-only, count-half, count-exact}

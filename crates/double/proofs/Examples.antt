@@ -5,8 +5,8 @@ use Prim.Native.Nat.{ℕ}
 use lib.IntN.{ℤ, pos, negsuc}
 use lib.Ieee.{Float, fin}
 use Rattle.refusal.specs.declared.Refusal.the-variants.{OutOfRange, Inexact}
-use Rattle.double.specs.declared.Reading.{Reading}
-use Rattle.double.specs.declared.Reading.the-variants.{At, Refused}
+use Rattle.axis_types.specs.declared.Reading.{Reading}
+use Rattle.axis_types.specs.declared.Reading.the-variants.{At, Refused}
 use Rattle.double.specs.declared.whole.Whole.the-variants.{Is, Refused as NotWhole}
 use Rattle.double.specs.Reading.{readDouble}
 use Rattle.double.specs.Whole.{wholeOf}

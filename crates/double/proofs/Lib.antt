@@ -1,5 +1,4 @@
 pub mod Demands
-pub mod Answers
 pub mod Examples
 pub mod Distance
 pub mod Order

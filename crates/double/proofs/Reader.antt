@@ -15,8 +15,8 @@ use Rattle.rounding.specs.declared.Quotient.the-variants.{Count, Large}
 use Rattle.rounding.specs.Rounding.{isExact, QuotientOf}
 use Rattle.rounding.proofs.Closest.{same-exact}
 use Rattle.refusal.specs.declared.Refusal.the-variants.{OutOfRange, NotFinite}
-use Rattle.double.specs.declared.Reading.{Reading}
-use Rattle.double.specs.declared.Reading.the-variants.{At, Refused}
+use Rattle.axis_types.specs.declared.Reading.{Reading}
+use Rattle.axis_types.specs.declared.Reading.the-variants.{At, Refused}
 use Rattle.double.specs.Nearest.{withSign}
 use Rattle.double.specs.Reading.{ranged, inRange, readFloat, readDouble, Bounds}
 use Rattle.double.specs.Fields.{ScaledTo}

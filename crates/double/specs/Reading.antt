@@ -11,23 +11,14 @@ use lib.Ieee.Nearest.{closest}
 use Rattle.rounding.specs.Rounding.{isExact}
 use Rattle.refusal.specs.Number.{numberOf as refusalNumber}
 use Rattle.refusal.specs.declared.Refusal.the-variants.{OutOfRange, NotFinite}
-use Rattle.double.specs.declared.Reading.{Reading}
-use Rattle.double.specs.declared.Reading.the-variants.{At, Refused}
+use Rattle.axis_types.specs.declared.Reading.{Reading}
+use Rattle.axis_types.specs.declared.Reading.the-variants.{At, Refused}
 use Rattle.double.specs.Nearest.{withSign, exactSize, distance, IsNearest}
 
 -- ---- document 01's number, instant and mark of each reading
 abbrev pub numberOf : Reading → ℕ
 numberOf (At z exact) = 0
 numberOf (Refused r) = refusalNumber r
-
-abbrev pub instantOf : Reading → ℤ
-instantOf (At z exact) = z
-instantOf (Refused r) = pos 0
-
--- whether there is an instant
-abbrev pub isRead : Reading → Bool
-isRead (At z exact) = true
-isRead (Refused r) = false
 
 -- ---- the reading
 -- the nearest count: the reference and the exact displacement, rounded to a whole number, a tie to the even one

@@ -8,16 +8,11 @@ ghost use lib.Signed.{mag};
 ghost use Rattle.double.specs.Nearest.{withSign};
 ghost use Rattle.double.specs.Reading.{Bounds, readDouble, ranged};
 ghost use Rattle.double.specs.Fields.{Scaling, ScaledTo};
+use axis_types::Reading;
 use refusal::Refusal;
 use rounding::Quotient;
 
 pub mod whole;
-
-// What an offset is read as: an instant and whether it is the exact time, or a refusal.
-pub enum Reading {
-    At(i64, bool),
-    Refused(Refusal),
-}
 
 // The size of a finite double, by the fields of its pattern, times a period, rounded. From 2^51 on it is large with
 // every period; below 2^-48 it is less than half a microsecond.

@@ -6,7 +6,7 @@ use mir.Syntax.{w64}
 use mir.ValLaws.{toZ-ofZ}
 use Rattle.refusal.specs.declared.Refusal.the-variants.{OutOfRange}
 use Rattle.signed.proofs.Integers.{tested}
-use Rattle.double.specs.declared.Reading.the-variants.{At, Refused}
+use Rattle.axis_types.specs.declared.Reading.the-variants.{At, Refused}
 use Rattle.double.specs.Reading.{inRange, ranged}
 use Rattle.double.proofs.Range.{inside, too-early, too-late}
 use Rattle.double.proofs.in_range.Statement.{statement}

@@ -16,8 +16,8 @@ use Rattle.rounding.specs.declared.Quotient.the-variants.{Count, Large}
 use Rattle.rounding.specs.Rounding.{QuotientOf}
 use Rattle.refusal.specs.declared.Refusal.the-variants.{NotFinite, OutOfRange}
 use Rattle.signed.proofs.Integers.{tested}
-use Rattle.double.specs.declared.Reading.{Reading}
-use Rattle.double.specs.declared.Reading.the-variants.{Refused}
+use Rattle.axis_types.specs.declared.Reading.{Reading}
+use Rattle.axis_types.specs.declared.Reading.the-variants.{Refused}
 use Rattle.double.specs.Nearest.{withSign}
 use Rattle.double.specs.Reading.{ranged, readFloat, readDouble}
 use Rattle.double.specs.Fields.{ScaledTo}
