@@ -1,6 +1,6 @@
 // Steps by months and years in a calendar, for calendar mode: the day that a number of steps leads to from a date, and the number of
-// steps from one date to another. Months and years are one step with a parameter. A caller shows that its dates exist in the years -9999
-// to 9999, and hands on the year of a date that many steps start at.
+// steps from one date to another. Months and years are one step with a parameter. The dates of a caller exist in the years -9999 to 9999,
+// and it hands on the year of each, so that a run finds that of its reference once.
 ghost use mathlib.Core.Path.{_≡_};
 ghost use mathlib.Core.Bool.{true, cond};
 ghost use Prim.Native.Nat.{_+_, _-_, _*_, _<_, _≤_};
@@ -147,13 +147,11 @@ fn difference(b: u64, a: u64) -> i64
     signed::unbiased(b + (0x8000_0000_0000_0000 - a))
 }
 
-// The n for which d lies n steps after x, or that there is none.
-pub fn steps_between(c: Calendar, part: Part, x: Date, d: Date) -> StepAnswer
-    requires { ⌜ HasNumber c x × HasNumber c d ⌝ }
+// The n for which d, of year w, lies n steps after x, or that there is none.
+pub fn steps_between(c: Calendar, part: Part, x: Date, y: u64, d: Date, w: u64) -> StepAnswer
+    requires { ⌜ YearOf c x y × YearOf c d w ⌝ }
     ensures { λ r. ⌜ r ≡ stepsBetween part c x d ⌝ }
 {
-    let y = year_of(c, x);
-    let w = year_of(c, d);
     if day_down(c, w, d.month, x.day) != d.day {
         return StepAnswer::Nothing;
     }

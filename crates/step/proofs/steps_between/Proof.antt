@@ -1,12 +1,11 @@
 -- `step::steps_between` meets its contract: the day that is kept in the month of d, then the counts.
 use mathlib.Core.Path.{_≡_, sym, ap, _∙_}
-use Prim.Native.Nat.{ℕ}
 use native.Mathlib.Omega.{arith}
 use lib.IntN.{ℤ, subℕ}
 use mir.Syntax.{w64}
 use mir.ValLaws.{toZ-ofZ}
 use Rattle.step.specs.Answers.{stepsBetween}
-use Rattle.step.specs.Closed.{monthCount, YearOf}
+use Rattle.step.specs.Closed.{monthCount}
 use Rattle.step.specs.Steps.{downTo}
 use Rattle.step.specs.declared.Part.{Part}
 use Rattle.step.specs.declared.StepAnswer.{StepAnswer}
@@ -17,28 +16,10 @@ use Rattle.step.proofs.steps_between.Tie as tie
 
 module _ (a : tie.After-day-down) where
   abbrev start : tie.Start
-  start = a .before .before .before
-
-  abbrev y : ℕ
-  y = a .before .before .year-of .result
-
-  abbrev w : ℕ
-  w = a .before .year-of2 .result
-
-  year-x : YearOf (start .args .c) (start .args .x) y
-  year-x = a .before .before .year-of .ensures
-
-  year-d : YearOf (start .args .c) (start .args .d) w
-  year-d = a .before .year-of2 .ensures
+  start = a .before
 
   day-is : a .day-down .result ≡ downTo (start .args .c) (start .args .d .year) (start .args .d .month) (start .args .x .day)
-  day-is = a .day-down .ensures ∙ ap (λ (u : ℤ). downTo (start .args .c) u (start .args .d .month) (start .args .x .day)) (year-d .is)
-
-year-of-requires : tie.Need-year-of-requires
-year-of-requires c κs = search needs
-
-year-of-requires-2 : tie.Need-year-of-requires-2
-year-of-requires-2 c κs = search needs
+  day-is = a .day-down .ensures ∙ ap (λ (u : ℤ). downTo (start .args .c) u (start .args .d .month) (start .args .x .day)) (start .pre .1 .is)
 
 day-down-requires : tie.Need-day-down-requires
 day-down-requires c κs = search needs
@@ -55,18 +36,18 @@ enum-told c = search needs
 month-count-requires : tie.Need-month-count-requires
 month-count-requires c κs =
     let a = c .before .before .before .before in
-    month-inside (start a .args .c) (start a .args .d) (w a) (year-d a)
+    month-inside (start a .args .c) (start a .args .d) (start a .args .w) (start a .pre .1)
 
 month-count-requires-2 : tie.Need-month-count-requires-2
 month-count-requires-2 c κs =
     let a = c .before .before .before .before .before in
-    month-inside (start a .args .c) (start a .args .x) (y a) (year-x a)
+    month-inside (start a .args .c) (start a .args .x) (start a .args .y) (start a .pre .0)
 
 difference-requires : tie.Need-difference-requires
 difference-requires c κs =
     let a = c .before .before .before .before .before .before in
     let s = start a .args in
-    (omega (arith, c .before .month-count .ensures, count-small (s .c) (s .d) (w a) (year-d a)), omega (arith, c .month-count2 .ensures, count-small (s .c) (s .x) (y a) (year-x a)))
+    (omega (arith, c .before .month-count .ensures, count-small (s .c) (s .d) (s .w) (start a .pre .1)), omega (arith, c .month-count2 .ensures, count-small (s .c) (s .x) (s .y) (start a .pre .0)))
 
 returns-2 : tie.Need-returns-2
 returns-2 c =
@@ -76,7 +57,7 @@ returns-2 c =
     let a = l .before .before in
     let s = start a .args in
     ap StepAnswer.Is (toZ-ofZ w64 (c .difference .result) (record { sfits = c .difference .ok }) ∙ (c .difference .ensures ∙ (λ i. subℕ (m .before .month-count .ensures i) (m .month-count2 .ensures i))))
-    ∙ (found-between Part.Month (s .c) (s .x) (s .d) (y a) (w a) (year-x a) (year-d a) (monthCount (w a) (s .d .month)) (monthCount (y a) (s .x .month)) (omega arith) (sym (day-is a) ∙ l .if1 .left)
+    ∙ (found-between Part.Month (s .c) (s .x) (s .d) (s .y) (s .w) (start a .pre .0) (start a .pre .1) (monthCount (s .w) (s .d .month)) (monthCount (s .y) (s .x .month)) (omega arith) (sym (day-is a) ∙ l .if1 .left)
     ∙ ap (λ (p : Part). stepsBetween p (s .c) (s .x) (s .d)) (sym (e .enum-told .given .1)))
 
 enum-told-2 : tie.Need-enum-told-2
@@ -93,7 +74,7 @@ difference-requires-2 : tie.Need-difference-requires-2
 difference-requires-2 c κs =
     let a = c .before .before .before .before .before .before .before in
     let s = start a .args in
-    (omega (arith, month-inside (s .c) (s .d) (w a) (year-d a)), omega (arith, month-inside (s .c) (s .x) (y a) (year-x a)))
+    (omega (arith, month-inside (s .c) (s .d) (s .w) (start a .pre .1)), omega (arith, month-inside (s .c) (s .x) (s .y) (start a .pre .0)))
 
 returns-4 : tie.Need-returns-4
 returns-4 c =
@@ -102,15 +83,13 @@ returns-4 c =
     let a = l .before .before in
     let s = start a .args in
     ap StepAnswer.Is (toZ-ofZ w64 (c .difference2 .result) (record { sfits = c .difference2 .ok }) ∙ c .difference2 .ensures)
-    ∙ (found-between Part.Year (s .c) (s .x) (s .d) (y a) (w a) (year-x a) (year-d a) (w a) (y a) (omega (arith, c .before .if2 .left)) (sym (day-is a) ∙ l .if1 .left)
+    ∙ (found-between Part.Year (s .c) (s .x) (s .d) (s .y) (s .w) (start a .pre .0) (start a .pre .1) (s .w) (s .y) (omega (arith, c .before .if2 .left)) (sym (day-is a) ∙ l .if1 .left)
     ∙ ap (λ (p : Part). stepsBetween p (s .c) (s .x) (s .d)) (sym (e .enum-told2 .given .1)))
 
 pub steps-between-spec : {M : Type 1} → statement M
 steps-between-spec =
     tie.close
     (tie.spec
-    year-of-requires
-    year-of-requires-2
     day-down-requires
     returns
     enum-told
