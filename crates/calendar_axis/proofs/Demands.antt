@@ -41,7 +41,7 @@ use Rattle.step.specs.declared.StepAnswer.{StepAnswer}
 use Rattle.step.proofs.Counts.{not-later}
 use Rattle.step.proofs.Order.{dates-rise}
 use Rattle.step.proofs.Steps.{same-number}
-use Rattle.step.proofs.Theorems.{steps-exist, between-is, between-near, nothing-between, is-between}
+use Rattle.step.proofs.Theorems.{steps-exist, between-is, between-near, is-between}
 use Rattle.axis_types.specs.Reading.{isRead}
 use Rattle.axis_types.specs.declared.Reading.{Reading}
 use Rattle.axis_types.specs.declared.OffsetAnswer.{OffsetAnswer}

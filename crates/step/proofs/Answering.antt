@@ -29,10 +29,6 @@ use Rattle.step.proofs.Steps.{one-number}
 
 -- ---- months as numbers
 
-pub months-few : (part : Part) (n : ℕ) → n * monthsOf part ≤ n * 12
-months-few Part.Month n = omega arith
-months-few Part.Year n = omega arith
-
 -- n - b steps from one month of the years to another are fewer than 240000
 pub steps-few : (part : Part) (n b i j : ℕ) → i < 240000 → j < 240000 → j + b * monthsOf part ≡ i + n * monthsOf part → (b < n + 240000) × (n < b + 240000)
 steps-few Part.Month n b i j p q e = (omega arith, omega arith)

@@ -59,12 +59,13 @@ fn months_of(part: Part) -> u64
     }
 }
 
-// The month that k - 2^63 steps lead to from month i, raised by 240000 steps; that many lead out of the years from every month.
-fn raised_month(part: Part, i: u64, k: u64) -> u64
+// The month that k - 2^63 steps lead to from month i, counted from 240000 years before the others: no step leads below that.
+fn month_after(part: Part, i: u64, k: u64) -> u64
     requires { ⌜ (i < 240000) × ((9223372036854535808 ≤ k) × (k < 9223372036855015808)) ⌝ }
-    ensures { λ j. ⌜ j ≡ i + (k - 9223372036854535808) * monthsOf part ⌝ }
+    ensures { λ j. ⌜ j + 240000 * monthsOf part ≡ i + 2880000 + (k - 9223372036854535808) * monthsOf part ⌝ }
 {
-    i + (k - (0x8000_0000_0000_0000 - 240000)) * months_of(part)
+    let m = months_of(part);
+    i + (2880000 - 240000 * m) + (k - (0x8000_0000_0000_0000 - 240000)) * m
 }
 
 // The least year that is not below -9999.
@@ -110,8 +111,8 @@ pub fn day_after(c: Calendar, part: Part, x: Date, y: u64, n: i64) -> i64
     requires { ⌜ YearOf c x y × (inYears (dateAfter part c n x .year) ≡ true) ⌝ }
     ensures { λ k. ⌜ dateOf c k ≡ dateAfter part c n x ⌝ }
 {
-    let j = raised_month(part, month_count(y, x.month), signed::biased(n));
-    day_in(c, j - 240000 * months_of(part), x.day)
+    let j = month_after(part, month_count(y, x.month), signed::biased(n));
+    day_in(c, j - 2880000, x.day)
 }
 
 // The same with the test: OutOfRange where the year lies past -9999 to 9999.
@@ -126,15 +127,14 @@ pub fn day_reached(c: Calendar, part: Part, x: Date, y: u64, n: i64) -> DayAnswe
     if 0x8000_0000_0000_0000 + 240000 <= k {
         return DayAnswer::Refused(Refusal::OutOfRange);
     }
-    let j = raised_month(part, month_count(y, x.month), k);
-    let o = 240000 * months_of(part);
-    if j < o + 12 * first_year(c) {
+    let j = month_after(part, month_count(y, x.month), k);
+    if j < 2880000 + 12 * first_year(c) {
         return DayAnswer::Refused(Refusal::OutOfRange);
     }
-    if o + 240000 <= j {
+    if 2880000 + 240000 <= j {
         return DayAnswer::Refused(Refusal::OutOfRange);
     }
-    return DayAnswer::Is(day_in(c, j - o, x.day));
+    return DayAnswer::Is(day_in(c, j - 2880000, x.day));
 }
 
 // ---- steps between dates

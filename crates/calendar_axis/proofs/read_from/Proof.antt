@@ -1,8 +1,6 @@
 -- `calendar_axis::read_from` meets its contract: the day that is reached, and the time of day.
 use mathlib.Core.Path.{_≡_, sym, ap, _∙_}
 use mathlib.Core.Bool.{true}
-use Prim.Native.Nat.{ℕ}
-use native.Mathlib.Omega.{arith}
 use lib.IntN.{ℤ, pos, _+ℤ_, _*ℤ_}
 use mir.Syntax.{w64}
 use mir.ValLaws.{toZ-ofZ}

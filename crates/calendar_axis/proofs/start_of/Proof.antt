@@ -4,7 +4,6 @@ use mathlib.Core.Bool.{true≢false}
 use Prim.Native.Nat.{ℕ, _-_, _<_}
 use native.Mathlib.Decide.{decLt}
 use native.Mathlib.Omega.{arith}
-use lib.IntN.{ℤ}
 use Rattle.signed.specs.Bias.{lower}
 use Rattle.signed.proofs.Differences.{sub-high}
 use Rattle.signed.proofs.Machine.{crossed}

@@ -11,7 +11,7 @@ use Rattle.signed.proofs.Machine.{crossed}
 use Rattle.calendar.specs.Calendar.{exists, dateOf, inYears}
 use Rattle.step.specs.Closed.{monthAt, monthCount, monthsOf}
 use Rattle.step.specs.Steps.{dateDown, dateAfter}
-use Rattle.step.proofs.Answering.{months-few, raised-is, month-inside, count-small, date-at, Inside, inside}
+use Rattle.step.proofs.Answering.{raised-is, month-inside, count-small, date-at, Inside, inside}
 use Rattle.step.proofs.Existing.{dates-there}
 use borrow.Author.Needs.{needs}
 use Rattle.step.proofs.day_after.Statement.{statement}
@@ -42,28 +42,19 @@ module _ (b : tie.After-biased) where
   raised : Inside (start .args .c) (start .args .x) (start .args .y) (start .pre .0) (start .args .part) steps 240000
   raised = inside (start .args .c) (start .args .x) (start .args .y) (start .pre .0) (start .args .part) steps 240000 (known _ (raised-is k (near .0) ∙ offset-is))
 
-module _ (m : tie.After-months-of) where
+module _ (m : tie.After-month-after) where
   abbrev at : tie.After-biased
-  at = m .before .before
+  at = m .before
 
   abbrev s : tie.Start
   s = start at
 
-  few : m .months-of .result ≤ 12
-  few = omega (arith, m .months-of .ensures, months-few (s .args .part) 1)
+  reached : m .month-after .result + 240000 * monthsOf (s .args .part) ≡ monthCount (s .args .y) (s .args .x .month) + 2880000 + steps at * monthsOf (s .args .part)
+  reached = m .month-after .ensures ∙ ap (λ (i : ℕ). i + 2880000 + steps at * monthsOf (s .args .part)) (at .before .month-count .ensures)
 
-  back : 240000 * m .months-of .result ≡ 240000 * monthsOf (s .args .part)
-  back = ap (λ (n : ℕ). 240000 * n) (m .months-of .ensures)
-
-  on : m .before .raised-month .result ≡ monthCount (s .args .y) (s .args .x .month) + steps at * monthsOf (s .args .part)
-  on = m .before .raised-month .ensures ∙ ap (λ (i : ℕ). i + steps at * monthsOf (s .args .part)) (at .before .month-count .ensures)
-
-  abbrev month : ℕ
-  month = m .before .raised-month .result - 240000 * m .months-of .result
-
-  date-is : dateDown (s .args .c) (monthAt (s .args .c) month) (s .args .x .day) ≡ dateAfter (s .args .part) (s .args .c) (s .args .n) (s .args .x)
+  date-is : dateDown (s .args .c) (monthAt (s .args .c) (m .month-after .result - 2880000)) (s .args .x .day) ≡ dateAfter (s .args .part) (s .args .c) (s .args .n) (s .args .x)
   date-is =
-      date-at (s .args .c) (s .args .x) (s .args .y) (s .pre .0) (s .args .part) (steps at) 240000 month (omega (arith, on, back, raised at .from))
+      date-at (s .args .c) (s .args .x) (s .args .y) (s .pre .0) (s .args .part) (steps at) 240000 (m .month-after .result - 2880000) (omega (arith, reached, raised at .from))
       ∙ ap (λ (z : ℤ). dateAfter (s .args .part) (s .args .c) z (s .args .x)) (raised-is (k at) (near at .0) ∙ offset-is at)
 
 month-count-requires : tie.Need-month-count-requires
@@ -72,24 +63,18 @@ month-count-requires c κs = month-inside (c .args .c) (c .args .x) (c .args .y)
 biased-requires : tie.Need-biased-requires
 biased-requires c κs = search needs
 
-raised-month-requires : tie.Need-raised-month-requires
-raised-month-requires c κs =
+month-after-requires : tie.Need-month-after-requires
+month-after-requires c κs =
     let s = start c in
     (omega (arith, c .before .month-count .ensures, count-small (s .args .c) (s .args .x) (s .args .y) (s .pre .0)), near c)
 
-months-of-requires : tie.Need-months-of-requires
-months-of-requires c κs = search needs
-
-mul-day-in : tie.Need-mul-day-in
-mul-day-in c = record { fits = omega (arith, few c) }
-
 sub-day-in : tie.Need-sub-day-in
-sub-day-in c = omega (arith, on c, back c, raised (at c) .from)
+sub-day-in c = omega (arith, reached c, raised (at c) .from)
 
 day-in-requires : tie.Need-day-in-requires
 day-in-requires c κs =
     let a = s c .args in
-    (omega (arith, on c, back c, raised (at c) .to), ap (exists (a .c)) (date-is c) ∙ dates-there (a .c) (a .part) (a .x) (s c .pre .0 .date .there) (a .n))
+    (omega (arith, reached c, raised (at c) .to), ap (exists (a .c)) (date-is c) ∙ dates-there (a .c) (a .part) (a .x) (s c .pre .0 .date .there) (a .n))
 
 returns : tie.Need-returns
 returns c =
@@ -102,9 +87,7 @@ day-after-spec =
     (tie.spec
     month-count-requires
     biased-requires
-    raised-month-requires
-    months-of-requires
-    mul-day-in
+    month-after-requires
     sub-day-in
     day-in-requires
     returns)

@@ -17,7 +17,7 @@ use Rattle.calendar.proofs.Answering.{year-out, date-there}
 use Rattle.calendar.proofs.Labels.{firstYear}
 use Rattle.step.specs.Closed.{monthAt, monthCount, monthsOf}
 use Rattle.step.specs.Steps.{dateDown, dateAfter}
-use Rattle.step.proofs.Answering.{months-few, far-below, far-above, raised-is, month-inside, count-small, date-at, year-before, year-past, year-between}
+use Rattle.step.proofs.Answering.{far-below, far-above, raised-is, month-inside, count-small, date-at, year-before, year-past, year-between}
 use Rattle.step.proofs.Existing.{dates-there}
 use borrow.Author.Needs.{needs}
 use Rattle.step.proofs.day_reached.Statement.{statement}
@@ -47,9 +47,9 @@ module _ (b : tie.After-biased) where
   past z e h = year-out (start .args .c) (moved z) h ∙ ap (λ (u : ℤ). dayAnswer (start .args .c) (moved u)) (e ∙ offset-is)
 
 -- the month that is reached
-module _ (m : tie.After-months-of) where
+module _ (m : tie.After-month-after) where
   abbrev near : tie.Else2
-  near = m .before .before .before
+  near = m .before .before
 
   abbrev at : tie.After-biased
   at = near .before .before
@@ -60,43 +60,33 @@ module _ (m : tie.After-months-of) where
   abbrev steps : ℕ
   steps = k at - 9223372036854535808
 
-  few : m .months-of .result ≤ 12
-  few = omega (arith, m .months-of .ensures, months-few (s .args .part) 1)
-
-  back : 240000 * m .months-of .result ≡ 240000 * monthsOf (s .args .part)
-  back = ap (λ (n : ℕ). 240000 * n) (m .months-of .ensures)
-
-  on : m .before .raised-month .result ≡ count at + steps * monthsOf (s .args .part)
-  on = m .before .raised-month .ensures ∙ ap (λ (i : ℕ). i + steps * monthsOf (s .args .part)) (m .before .before .month-count .ensures)
-
   steps-is : subℕ steps 240000 ≡ lower (k at)
   steps-is = raised-is (k at) (near .before .if1 .left)
 
-first-is : (f : tie.After-first-year) → 12 * f .first-year .result ≡ 12 * firstYear (hasYearZero (s (f .before) .args .c))
-first-is f = ap (λ (y : ℕ). 12 * y) (f .first-year .ensures .0)
+  reached : m .month-after .result + 240000 * monthsOf (s .args .part) ≡ count at + 2880000 + steps * monthsOf (s .args .part)
+  reached = m .month-after .ensures ∙ ap (λ (i : ℕ). i + 2880000 + steps * monthsOf (s .args .part)) (m .before .month-count .ensures)
 
-first-small : (f : tie.After-first-year) → f .first-year .result ≤ 2
-first-small f = f .first-year .ensures .1
-
+-- where it lies in the years
 module _ (e : tie.Else4) where
-  abbrev found : tie.After-months-of
+  abbrev found : tie.After-month-after
   found = e .before .before .before
 
-  abbrev month : ℕ
-  month = found .before .raised-month .result - 240000 * found .months-of .result
+  abbrev date : Date
+  date = moved (at found) (s found .args .n)
 
-  date-is : dateDown (s found .args .c) (monthAt (s found .args .c) month) (s found .args .x .day) ≡ moved (at found) (s found .args .n)
+  date-is : dateDown (s found .args .c) (monthAt (s found .args .c) (found .month-after .result - 2880000)) (s found .args .x .day) ≡ date
   date-is =
-      date-at (s found .args .c) (s found .args .x) (s found .args .y) (s found .pre) (s found .args .part) (steps found) 240000 month (omega (arith, on found, back found, e .before .if3 .left))
+      date-at (s found .args .c) (s found .args .x) (s found .args .y) (s found .pre) (s found .args .part) (steps found) 240000 (found .month-after .result - 2880000) (omega (arith, reached found, e .before .if3 .left))
       ∙ ap (moved (at found)) (steps-is found ∙ offset-is (at found))
 
-  there : exists (s found .args .c) (moved (at found) (s found .args .n)) ≡ true
+  there : exists (s found .args .c) date ≡ true
   there = dates-there (s found .args .c) (s found .args .part) (s found .args .x) (s found .pre .date .there) (s found .args .n)
 
-  inside : inYears (moved (at found) (s found .args .n) .year) ≡ true
+  inside : inYears (date .year) ≡ true
   inside =
       ap (λ (z : ℤ). inYears (moved (at found) z .year)) (sym (steps-is found ∙ offset-is (at found)))
-      ∙ year-between (s found .args .c) (s found .args .x) (s found .args .y) (s found .pre) (s found .args .part) (steps found) 240000 (omega (arith, on found, back found, first-is (e .before .before), e .before .if3 .left)) (omega (arith, on found, back found, e .if4 .left))
+      ∙ year-between (s found .args .c) (s found .args .x) (s found .args .y) (s found .pre) (s found .args .part) (steps found) 240000
+      (omega (arith, reached found, e .before .before .first-year .ensures .0, e .before .if3 .left)) (omega (arith, reached found, e .if4 .left))
 
 biased-requires : tie.Need-biased-requires
 biased-requires c κs = search needs
@@ -122,41 +112,35 @@ returns-2 c =
 month-count-requires : tie.Need-month-count-requires
 month-count-requires c κs = let s = start (c .before .before) in month-inside (s .args .c) (s .args .x) (s .args .y) (s .pre)
 
-raised-month-requires : tie.Need-raised-month-requires
-raised-month-requires c κs =
+month-after-requires : tie.Need-month-after-requires
+month-after-requires c κs =
     let e = c .before in
     (omega (arith, c .month-count .ensures, small (e .before .before)), (e .before .if1 .left, e .if2 .left))
-
-months-of-requires : tie.Need-months-of-requires
-months-of-requires c κs = search needs
-
-mul-o : tie.Need-mul-o
-mul-o c = record { fits = omega (arith, few c) }
 
 first-year-requires : tie.Need-first-year-requires
 first-year-requires c κs = search needs
 
 mul-if3 : tie.Need-mul-if3
-mul-if3 c = record { fits = omega (arith, first-small c) }
+mul-if3 c = search needs
 
 add-if3 : tie.Need-add-if3
-add-if3 c = record { fits = omega (arith, few (c .before), first-small c) }
+add-if3 c = search needs
 
 returns-3 : tie.Need-returns-3
 returns-3 c =
     let f = c .before in
     let m = f .before in
     past (at m) (subℕ (steps m) 240000) (steps-is m)
-    (year-before (s m .args .c) (s m .args .x) (s m .args .y) (s m .pre) (s m .args .part) (steps m) 240000 (omega (arith, on m, back m, first-is f, c .if3 .taken)))
+    (year-before (s m .args .c) (s m .args .x) (s m .args .y) (s m .pre) (s m .args .part) (steps m) 240000 (omega (arith, reached m, f .first-year .ensures .0, c .if3 .taken)))
 
 add-if4 : tie.Need-add-if4
-add-if4 c = record { fits = omega (arith, few (c .before .before)) }
+add-if4 c = search needs
 
 returns-4 : tie.Need-returns-4
 returns-4 c =
     let m = c .before .before .before in
     past (at m) (subℕ (steps m) 240000) (steps-is m)
-    (year-past (s m .args .c) (s m .args .x) (s m .args .y) (s m .pre) (s m .args .part) (steps m) 240000 (omega (arith, on m, back m, c .if4 .taken)))
+    (year-past (s m .args .c) (s m .args .x) (s m .args .y) (s m .pre) (s m .args .part) (steps m) 240000 (omega (arith, reached m, c .if4 .taken)))
 
 sub-day-in : tie.Need-sub-day-in
 sub-day-in c = search needs
@@ -168,8 +152,7 @@ returns-5 : tie.Need-returns-5
 returns-5 c =
     let e = c .before in
     let d = c .day-in in
-    ap DayAnswer.Is (toZ-ofZ w64 (d .result) (record { sfits = d .ok }))
-    ∙ date-there (s (found e) .args .c) (moved (at (found e)) (s (found e) .args .n)) (d .result) (inside e) (there e) (d .ensures ∙ date-is e)
+    ap DayAnswer.Is (toZ-ofZ w64 (d .result) (record { sfits = d .ok })) ∙ date-there (s (found e) .args .c) (date e) (d .result) (inside e) (there e) (d .ensures ∙ date-is e)
 
 pub day-reached-spec : {M : Type 1} → statement M
 day-reached-spec =
@@ -181,9 +164,7 @@ day-reached-spec =
     add-if2
     returns-2
     month-count-requires
-    raised-month-requires
-    months-of-requires
-    mul-o
+    month-after-requires
     first-year-requires
     mul-if3
     add-if3
