@@ -1,7 +1,7 @@
 -- `step::day_reached` meets its contract: the tests are those of the month that is reached.
 use mathlib.Core.Path.{_≡_, refl, sym, ap, _∙_}
 use mathlib.Core.Bool.{true, false}
-use Prim.Native.Nat.{ℕ, _+_, _-_, _*_, _<_, _≤_}
+use Prim.Native.Nat.{ℕ, _+_, _-_, _*_, _<_}
 use native.Mathlib.Omega.{arith}
 use lib.IntN.{ℤ, subℕ}
 use mir.Syntax.{w64}
@@ -9,12 +9,11 @@ use mir.ValLaws.{toZ-ofZ}
 use Rattle.refusal.specs.declared.Refusal.the-variants.{OutOfRange}
 use Rattle.signed.specs.Bias.{lower}
 use Rattle.signed.proofs.Machine.{crossed}
-use Rattle.calendar.specs.Calendar.{hasYearZero, exists, inYears}
+use Rattle.calendar.specs.Calendar.{exists, inYears}
 use Rattle.calendar.specs.Answers.{dayAnswer}
 use Rattle.calendar.specs.declared.Date.{Date}
 use Rattle.calendar.specs.declared.DayAnswer.{DayAnswer}
 use Rattle.calendar.proofs.Answering.{year-out, date-there}
-use Rattle.calendar.proofs.Labels.{firstYear}
 use Rattle.step.specs.Closed.{monthAt, monthCount, monthsOf}
 use Rattle.step.specs.Steps.{dateDown, dateAfter}
 use Rattle.step.proofs.Answering.{far-below, far-above, raised-is, month-inside, count-small, date-at, year-before, year-past, year-between}
