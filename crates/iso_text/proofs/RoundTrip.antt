@@ -22,7 +22,7 @@ use Rattle.date_text.specs.DateRule.{utc, date}
 use Rattle.iso_form.proofs.Back.{Formed, read-back}
 use Rattle.iso_form.proofs.Laws.{iso-length}
 use Rattle.written_instant.specs.Instants.{signedOf, localFields, ranged, lessZone, writtenInstant}
-use Rattle.written_instant.proofs.Texts.{text-read}
+use Rattle.named_text.proofs.Laws.{text-named, text-read}
 use Rattle.calendar_name.specs.Names.{calendarOf}
 use Rattle.iso_text.proofs.Laws.{year-small}
 use Rattle.iso_text.specs.Iso.{isNegative, writtenOf, textOf, readIso}
@@ -72,7 +72,7 @@ module _ (c : Calendar) (t : ℤ) (f : Fields) (e : fieldsAnswer c t ≡ FieldsA
   unfolding readIso
   round-trip name n =
       let l : length (textOf f) ≤ 128 = omega (arith, iso-length (writtenOf f)) in
-      sym (text-read InstantAnswer.Refused date writtenInstant name (textOf f) l c (some (writtenOf f)) n read-text) ∙ instant-back
+      sym (text-read InstantAnswer.Refused date writtenInstant name (textOf f) c (some (writtenOf f)) (text-named name (textOf f) (some c) l n) read-text) ∙ instant-back
 
 -- no two instants of one calendar share a text
 pub one-text : (c : Calendar) (t u : ℤ) (f g : Fields) → fieldsAnswer c t ≡ FieldsAnswer.Is f → fieldsAnswer c u ≡ FieldsAnswer.Is g → textOf f ≡ textOf g → t ≡ u

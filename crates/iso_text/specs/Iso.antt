@@ -12,7 +12,7 @@ use Rattle.instant.specs.declared.InstantAnswer.{InstantAnswer}
 use Rattle.date_text.specs.declared.Written.{Written}
 use Rattle.date_text.specs.DateRule.{utc, date}
 use Rattle.written_instant.specs.Instants.{writtenInstant}
-use Rattle.written_instant.specs.Texts.{readText}
+use Rattle.named_text.specs.Texts.{readText}
 use Rattle.iso_form.specs.Form.{isoText, lengthAnswer, over}
 use Rattle.iso_form.specs.declared.LengthAnswer.{LengthAnswer}
 

@@ -6,7 +6,6 @@ ghost use lib.IntN.{natAbs};
 ghost use Rattle.calendar.specs.Calendar.{inYears};
 ghost use Rattle.iso_text.specs.Iso.{readIso, writtenOf, writeIso, roomIso};
 use calendar::Calendar;
-use calendar_name::CalendarNamed;
 use date_text::Time;
 use date_text::Written;
 use date_text::WrittenAnswer;
@@ -15,22 +14,22 @@ use instant::Fields;
 use instant::FieldsAnswer;
 use instant::InstantAnswer;
 use iso_form::LengthAnswer;
+use named_text::TextCalendar;
 use refusal::Refusal;
 
 // The instant of a text in the calendar of a name.
 pub fn read_iso(name: &[u8], text: &[u8]) -> InstantAnswer
     ensures { λ r. ⌜ r ≡ readIso (now (name .entry)) (now (text .entry)) ⌝ }
 {
-    if 128 < text.len() {
-        return InstantAnswer::Refused(Refusal::TextTooLong);
+    match named_text::text_calendar(name, text) {
+        TextCalendar::Refused(r) => return InstantAnswer::Refused(r),
+        TextCalendar::Is(c) => {
+            let WrittenAnswer::Read(w) = date_text::read_date(text) else {
+                return InstantAnswer::Refused(Refusal::IllFormed);
+            };
+            return written_instant::written_instant(c, w);
+        }
     }
-    let CalendarNamed::Is(c) = calendar_name::calendar_of(name) else {
-        return InstantAnswer::Refused(Refusal::UnknownCalendar);
-    };
-    let WrittenAnswer::Read(w) = date_text::read_date(text) else {
-        return InstantAnswer::Refused(Refusal::IllFormed);
-    };
-    written_instant::written_instant(c, w)
 }
 
 // A year of four digits without its sign.
