@@ -36,7 +36,7 @@ use Rattle.axis.proofs.Moving.{moved-in, moved-out}
 use Rattle.axis_types.specs.declared.Axis.{Axis}
 use Rattle.axis_text.specs.Units.{axisAt, axisOf, readUnits}
 use Rattle.axis_text.specs.declared.AxisAnswer.{AxisAnswer}
-use Rattle.date_text.specs.declared.Written.{Written}
+use Rattle.date_text.specs.declared.WrittenDate.{WrittenDate}
 use Rattle.date_text.specs.declared.Zone.{Zone}
 use Rattle.grammar.specs.Grammar.{within as withinClass, inside}
 use Rattle.grammar.specs.Reader.{read}
@@ -76,7 +76,7 @@ module _ (c : Calendar) where
       applied (λ (b : Bool). cond (isZone z) (cond b (InstantAnswer.Is u) (InstantAnswer.Refused Refusal.OutOfRange)) (InstantAnswer.Refused Refusal.NoSuchDate)) (inRangeKnown c u)
   lessZoneKnown z (InstantAnswer.Refused r) = itself (InstantAnswer.Refused r)
 
-  unfoldable pub writtenInstantKnown : (w : Written) → Known (writtenInstant c w)
+  unfoldable pub writtenInstantKnown : (w : WrittenDate) → Known (writtenInstant c w)
   unfolding writtenInstant lessZoneKnown instantAnswerKnown
   writtenInstantKnown w = through (lessZone c (w .time .zone)) (lessZoneKnown (w .time .zone)) (instantAnswerKnown c (localFields w))
 

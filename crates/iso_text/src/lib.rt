@@ -4,11 +4,11 @@ ghost use mathlib.Core.Path.{_≡_};
 ghost use mathlib.Core.Bool.{true};
 ghost use lib.IntN.{natAbs};
 ghost use Rattle.calendar.specs.Calendar.{inYears};
-ghost use Rattle.iso_text.specs.Iso.{readIso, writtenOf, writeIso, roomIso};
+ghost use Rattle.iso_text.specs.Iso.{readIso, utcDate, writeIso, roomIso};
 use calendar::Calendar;
 use date_text::Time;
-use date_text::Written;
 use date_text::WrittenAnswer;
+use date_text::WrittenDate;
 use date_text::Zone;
 use instant::Fields;
 use instant::FieldsAnswer;
@@ -45,11 +45,11 @@ fn year_digits(y: i64) -> u32
 }
 
 // Fields as a date that is written.
-fn written_of(f: Fields) -> Written
+fn written_of(f: Fields) -> WrittenDate
     requires { ⌜ inYears (f .year) ≡ true ⌝ }
-    ensures { λ r. ⌜ r ≡ writtenOf f ⌝ }
+    ensures { λ r. ⌜ r ≡ utcDate f ⌝ }
 {
-    Written {
+    WrittenDate {
         negative: f.year < 0,
         year: year_digits(f.year),
         month: f.month,

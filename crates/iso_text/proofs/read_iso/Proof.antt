@@ -1,7 +1,7 @@
 -- `iso_text::read_iso` meets its contract: each test settles one refusal, in their order.
 use borrow.Author.Needs.{needs}
 use mathlib.Core.Path.{_≡_, sym, ap, _∙_}
-use Rattle.date_text.specs.DateRule.{date}
+use Rattle.date_text.specs.DateRule.{dateRule}
 use Rattle.date_text.proofs.Texts.{writtenValue, written-back}
 use Rattle.date_text.specs.declared.WrittenAnswer.{WrittenAnswer}
 use Rattle.instant.specs.declared.InstantAnswer.{InstantAnswer}
@@ -20,7 +20,7 @@ module _ (d : tie.After-read-date) where
   read : (o : WrittenAnswer) → d .read-date .result ≡ o → byValue InstantAnswer.Refused (writtenInstant (d .before .before .c .given .0 .0)) (writtenValue o) ≡ readIso (k .before .before .before .args .name .now) (k .before .before .before .args .text .now)
   unfolding readIso
   read o e =
-      text-read InstantAnswer.Refused date writtenInstant _ _ _ _ (sym (d .before .before .c .given .1) ∙ k .text-calendar .ensures)
+      text-read InstantAnswer.Refused dateRule writtenInstant _ _ _ _ (sym (d .before .before .c .given .1) ∙ k .text-calendar .ensures)
       (written-back _ (d .read-date .result) (d .read-date .ensures) ∙ ap writtenValue e)
 
 text-calendar-requires : tie.Need-text-calendar-requires
@@ -33,7 +33,7 @@ returns : tie.Need-returns
 unfolding readIso
 returns c =
     let k = c .before .before .before in
-    text-refused InstantAnswer.Refused date writtenInstant (k .before .before .before .args .name .now) (k .before .before .before .args .text .now) _ (sym (c .before .r .given .1) ∙ k .text-calendar .ensures)
+    text-refused InstantAnswer.Refused dateRule writtenInstant (k .before .before .before .args .name .now) (k .before .before .before .args .text .now) _ (sym (c .before .r .given .1) ∙ k .text-calendar .ensures)
 
 enum-known-c : tie.Need-enum-known-c
 enum-known-c c = search needs
