@@ -1,4 +1,4 @@
-// An axis read from a calendar name and a units text (specs/Units.antt). The call is total.
+// An axis read from a calendar name and a units text (specs/Units.antt). `read_units` is total.
 ghost use mathlib.Core.Path.{_≡_};
 ghost use Rattle.axis_text.specs.Units.{axisOf, readUnits};
 use axis_types::Axis;

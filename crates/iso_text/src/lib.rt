@@ -1,5 +1,5 @@
-// ISO text: an instant read from a calendar name and a text, and an instant written into lent room (specs/Iso.antt). Both calls are
-// total. proofs/RoundTrip.antt shows that reading what was written gives the instant, so that no two instants of a calendar share a text.
+// ISO text: an instant read from a calendar name and a text, and an instant written into lent room (specs/Iso.antt). `read_iso` and
+// `write_iso` are total. proofs/RoundTrip.antt shows that reading what was written gives the instant, so that no two instants of a calendar share a text.
 ghost use mathlib.Core.Path.{_≡_};
 ghost use mathlib.Core.Bool.{true};
 ghost use lib.IntN.{natAbs};

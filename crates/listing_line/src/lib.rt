@@ -1,5 +1,5 @@
-// One line of the listing program (specs/Line.antt): what a line of input answers, and the bytes that are printed for it. Both calls are
-// total. A reader may rely on the theorems of proofs/Theorems.antt.
+// One line of the listing program (specs/Line.antt): what a line of input answers, and the bytes that are printed for it. `read_line` and
+// `answer` are total. A reader may rely on the theorems of proofs/Theorems.antt.
 ghost use mathlib.Core.Path.{_≡_};
 ghost use mathlib.Core.Bool.{true};
 ghost use mathlib.Core.List.{_∷_, _++_};

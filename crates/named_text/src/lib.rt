@@ -1,5 +1,5 @@
-// What comes before the grammar of a text that is read in the calendar of a name (specs/Texts.antt): the text's length, then the name. The
-// call is total.
+// What comes before the grammar of a text that is read in the calendar of a name (specs/Texts.antt): the text's length, then the name.
+// `text_calendar` is total.
 ghost use mathlib.Core.Path.{_≡_};
 ghost use Rattle.named_text.specs.Texts.{textCalendar};
 use calendar::Calendar;

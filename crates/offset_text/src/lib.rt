@@ -1,5 +1,5 @@
 // The text of an offset in a line of the listing program: a whole number in decimal digits, or the bits of a double in hexadecimal ones
-// (specs/OffsetRule.antt). The call is total.
+// (specs/OffsetRule.antt). `read_offset` is total.
 ghost use mathlib.Core.Path.{_≡_};
 ghost use Prim.Native.Nat.{_^_, _≤_};
 ghost use lib.ListN.{length};
