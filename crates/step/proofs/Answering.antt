@@ -1,256 +1,150 @@
--- The answers, from the counts that the functions compute.
+-- What the functions compute, from the counts of months.
 use mathlib.Core.Path.{_≡_, refl, sym, ap, _∙_}
-use mathlib.Core.Bool.{true, false, true≢false}
+use mathlib.Core.Bool.{Bool, true, false, _&&_, true≢false}
 use Prim.Native.Nat.{ℕ, _+_, _-_, _*_, _/_, _<_, _≤_}
 use native.Mathlib.Decide.{decLt}
 use native.Mathlib.Omega.{arith}
-use lib.Dec.{leb}
+use lib.Dec.{leb, ltb}
 use lib.IntN.{ℤ, subℕ}
-use lib.Signed.{ltZ}
-use borrow.Author.Tests.{lt-ltb, leb-true}
-use Rattle.refusal.specs.declared.Refusal.{Refusal}
-use Rattle.refusal.specs.declared.Refusal.the-variants.{OutOfRange}
+use borrow.Author.Tests.{le-leb, lt-leb, leb-true, leb-false, lt-ltb, le-ltb, ltb-true}
 use Rattle.signed.specs.Bias.{lower}
-use Rattle.signed.proofs.Tests.{and-parts}
-use Rattle.signed.proofs.Differences.{same-diff, sub-lt}
-use Rattle.calendar.specs.Calendar.{hasYearZero, exists, inYears, date}
-use Rattle.calendar.specs.Answers.{dayAnswer, dayNumber}
+use Rattle.signed.proofs.Tests.{test-is, both, and-parts, left-out, right-out}
+use Rattle.signed.proofs.Differences.{same-diff}
+use Rattle.calendar.specs.Calendar.{hasYearZero, inYears}
 use Rattle.calendar.specs.Closed.{yearAt}
 use Rattle.calendar.specs.declared.Calendar.{Calendar}
 use Rattle.calendar.specs.declared.Date.{Date}
-use Rattle.calendar.specs.declared.DateAnswer.{DateAnswer}
-use Rattle.calendar.specs.declared.DayAnswer.{DayAnswer}
-use Rattle.calendar.proofs.Answering.{date-there}
-use Rattle.calendar.proofs.Existing.{date-eq, valid-of, valid-year, Valid}
+use Rattle.calendar.proofs.Existing.{date-eq, valid-of}
 use Rattle.calendar.proofs.Labels.{firstYear, year-in}
-use Rattle.calendar.proofs.Ordered.{by-year}
-use Rattle.calendar.proofs.Theorems.{answered, count-of, date-of-number}
-use Rattle.step.specs.Answers.{within, dateFrom, monthsAnswer, yearsAnswer, numberAt, stepFrom, monthsBetween, yearsBetween}
-use Rattle.step.specs.Closed.{monthAt, Begun}
-use Rattle.step.specs.Months.{YearMonth, yearMonth, monthsOn, yearsOn, monthOf, downTo, dateIn, monthsAfter, yearsAfter}
+use Rattle.step.specs.Answers.{stepsBetween}
+use Rattle.step.specs.Closed.{monthAt, monthCount, monthsOf, YearOf}
+use Rattle.step.specs.Steps.{YearMonth, yearMonth, yearMonthOf, monthReached, downTo, dateDown, dateAfter}
+use Rattle.step.specs.declared.Part.{Part}
 use Rattle.step.specs.declared.StepAnswer.{StepAnswer}
-use Rattle.step.proofs.Counts.{years-at, years-below, months-at, months-below, month-is}
-use Rattle.step.proofs.Order.{months-rise, years-rise, months-before, years-before}
+use Rattle.step.proofs.Counts.{months-at, months-below, month-is}
+use Rattle.step.proofs.Existing.{month-kept}
+use Rattle.step.proofs.Order.{dates-rise}
 use Rattle.step.proofs.Searching.{found-none, found-at}
 use Rattle.step.proofs.Steps.{one-number}
 
--- ---- a number raised by 2^63, against a count b: o is 2^63 - b
+-- ---- months as numbers
 
-module _ (b o : ℕ) (is : o ≡ 9223372036854775808 - b) (small : b < 9223372036854775808) where
-  below : (k : ℕ) → k < o → ltZ (lower k) (subℕ 0 b) ≡ true
-  below k h = ap (ltZ (lower k)) (same-diff 0 b o 9223372036854775808 (omega arith)) ∙ (sub-lt k o 9223372036854775808 ∙ lt-ltb k o h)
+-- n - b steps from one month of the years to another are fewer than 240000
+pub steps-few : (part : Part) (n b i j : ℕ) → i < 240000 → j < 240000 → j + b * monthsOf part ≡ i + n * monthsOf part → (b < n + 240000) × (n < b + 240000)
+steps-few Part.Month n b i j p q e = (omega arith, omega arith)
+steps-few Part.Year n b i j p q e = (omega arith, omega arith)
 
-  onward : (k : ℕ) → o ≤ k → subℕ (k - o) b ≡ lower k
-  onward k h = same-diff (k - o) b k 9223372036854775808 (omega arith)
+-- 240000 steps or more, raised by 2^63, lead out of the months
+pub far-below : (part : Part) (i k : ℕ) → i < 240000 → k < 9223372036854535808 → i + k * monthsOf part < 9223372036854775808 * monthsOf part
+far-below Part.Month i k p q = omega arith
+far-below Part.Year i k p q = omega arith
 
-  pub between : (i : ℕ) → lower (i + o) ≡ subℕ i b
-  between i = same-diff (i + o) 9223372036854775808 i b (omega arith)
+pub far-above : (part : Part) (i k : ℕ) → 9223372036855015808 ≤ k → 9223372036854775808 * monthsOf part + 240000 ≤ i + k * monthsOf part
+far-above Part.Month i k p = omega arith
+far-above Part.Year i k p = omega arith
 
--- ---- a date and the range of years
+-- a number raised by 240000
+pub raised-is : (k : ℕ) → 9223372036854535808 ≤ k → subℕ (k - 9223372036854535808) 240000 ≡ lower k
+raised-is k h = same-diff (k - 9223372036854535808) 240000 k 9223372036854775808 (omega arith)
 
-pub outside : (d : Date) → inYears (d .year) ≡ false → DateAnswer.Refused OutOfRange ≡ within d
-outside d h = rw h
+-- the months of the years -9999 to 9999
+month-in : (z : Bool) (j : ℕ) → inYears (yearAt z (j / 12)) ≡ (leb (12 * firstYear z) j && ltb j 240000)
+month-in z j =
+    let low : leb (firstYear z) (j / 12) ≡ leb (12 * firstYear z) j = test-is (leb (firstYear z) (j / 12)) (leb (12 * firstYear z) j) (λ e. le-leb (12 * firstYear z) j (omega (arith, leb-true (firstYear z) (j / 12) e))) (λ e. lt-leb (12 * firstYear z) j (omega (arith, leb-false (firstYear z) (j / 12) e))) in
+    let high : leb (j / 12) 19999 ≡ ltb j 240000 = test-is (leb (j / 12) 19999) (ltb j 240000) (λ e. lt-ltb j 240000 (omega (arith, leb-true (j / 12) 19999 e))) (λ e. le-ltb j 240000 (omega (arith, leb-false (j / 12) 19999 e))) in
+    year-in z (j / 12) ∙ (λ k. low k && high k)
 
-pub inside : (d : Date) → inYears (d .year) ≡ true → DateAnswer.Is d ≡ within d
-inside d h = rw h
+-- ---- a date x of year y
 
--- ---- a date that steps begin at
-
-pub begun : (c : Calendar) (x : Date) (n : ℤ) (y : ℕ) → DayAnswer.Is n ≡ dayAnswer c x → yearAt (hasYearZero c) y ≡ x .year → Begun c x y
-begun c x n y h e = let a = answered c x n h in record { number = n; numbered = sym h; inside = a .inside; there = a .there; year = e }
-
--- every date that exists in the years -9999 to 9999 is one
-pub record Beginning (c : Calendar) (x : Date) : Type 0 where
-  pub year : ℕ
-  pub is : Begun c x year
-
-pub beginning : (c : Calendar) (x : Date) → inYears (x .year) ≡ true → exists c x ≡ true → Beginning c x
-beginning c x h g =
-    let y = count-of (hasYearZero c) (x .year) h (valid-year c x (valid-of c x g)) in
-    record { year = y .count; is = begun c x (dayNumber c x) (y .count) (date-there c x (dayNumber c x) h g (date-of-number c x h g)) (y .is) }
-
--- the count of the month of a date in year y
-abbrev pub monthCount : Date → ℕ → ℕ
-monthCount x y = 12 * y + (x .month - 1)
-
-module _ (c : Calendar) (x : Date) (y : ℕ) (g : Begun c x y) where
-  -- a year of the range, by its count
-  counted : (u : ℕ) → inYears (yearAt (hasYearZero c) u) ≡ true → u < 20000
-  counted u h =
-      let z = hasYearZero c in
-      let w = and-parts (leb (firstYear z) u) (leb u 19999) (sym (year-in z u) ∙ h) in
-      omega (arith, leb-true u 19999 (w .1))
-
+module _ (c : Calendar) (x : Date) (y : ℕ) (g : YearOf c x y) where
   pub year-small : y < 20000
-  year-small = counted y (ap inYears (g .year) ∙ g .inside)
+  year-small =
+      let z = hasYearZero c in
+      let w = and-parts (leb (firstYear z) y) (leb y 19999) (sym (year-in z y) ∙ (ap inYears (g .is) ∙ g .date .inside)) in
+      omega (arith, leb-true y 19999 (w .1))
 
-  pub valid : Valid c x
-  valid = valid-of c x (g .there)
+  pub month-inside : (y < 20000) × ((1 ≤ x .month) × (x .month ≤ 12))
+  month-inside = let v = valid-of c x (g .date .there) in (year-small, (v .month-low, v .month-high))
 
-  pub count-small : monthCount x y < 240000
-  count-small = omega (arith, year-small, valid .month-high)
+  pub count-small : monthCount y (x .month) < 240000
+  count-small = omega (arith, month-inside)
 
-  pub month-counted : monthAt c (monthCount x y) ≡ monthOf x
-  month-counted = month-is c y (x .month) (valid .month-low) (valid .month-high) ∙ ap (λ (u : ℤ). yearMonth u (x .month)) (g .year)
+  pub month-counted : monthAt c (monthCount y (x .month)) ≡ yearMonthOf x
+  month-counted = month-is c y (x .month) (month-inside .1 .0) (month-inside .1 .1) ∙ ap (λ (u : ℤ). yearMonth u (x .month)) (g .is)
 
-  -- ---- months
+  -- the date n - b steps after it
+  module _ (part : Part) (n b : ℕ) where
+    year-below : monthCount y (x .month) + n * monthsOf part < b * monthsOf part → inYears (dateAfter part c (subℕ n b) x .year) ≡ false
+    unfolding dateAfter
+    year-below h = ap (λ (p : YearMonth). inYears (monthReached part c (subℕ n b) p .year)) (sym month-counted) ∙ months-below c part n b (monthCount y (x .month)) h
 
-  pub months-reached : (i : ℕ) → monthsOn c (subℕ i (monthCount x y)) (monthOf x) ≡ monthAt c i
-  months-reached i = ap (monthsOn c (subℕ i (monthCount x y))) (sym month-counted) ∙ months-at c (monthCount x y) i
+    module _ (j : ℕ) (e : j + b * monthsOf part ≡ monthCount y (x .month) + n * monthsOf part) where
+      pub date-at : dateDown c (monthAt c j) (x .day) ≡ dateAfter part c (subℕ n b) x
+      unfolding dateAfter
+      date-at = ap (λ (p : YearMonth). dateDown c p (x .day)) (sym (months-at c part n b (monthCount y (x .month)) j e) ∙ ap (monthReached part c (subℕ n b)) month-counted)
 
-  months-answered : (z : ℤ) → within (monthsAfter c z x) ≡ monthsAnswer c z x
-  unfolding monthsAnswer
-  months-answered z = ap (λ (a : DayAnswer). dateFrom a (within (monthsAfter c z x))) (sym (g .numbered))
+      year-at : inYears (dateAfter part c (subℕ n b) x .year) ≡ (leb (12 * firstYear (hasYearZero c)) j && ltb j 240000)
+      year-at = ap (λ (d : Date). inYears (d .year)) (sym date-at) ∙ month-in (hasYearZero c) j
 
-  module _ (k o : ℕ) (is : o ≡ 9223372036854775808 - monthCount x y) where
-    months-past : k < o → inYears (monthsAfter c (lower k) x .year) ≡ false
-    unfolding monthsAfter
-    months-past h = ap (λ (p : YearMonth). inYears (monthsOn c (lower k) p .year)) (sym month-counted) ∙ months-below c (monthCount x y) (lower k) (below (monthCount x y) o is (omega (arith, count-small)) k h)
+    -- the tests of its month against the first and the last of the years
+    pub year-before : monthCount y (x .month) + n * monthsOf part < b * monthsOf part + 12 * firstYear (hasYearZero c) → inYears (dateAfter part c (subℕ n b) x .year) ≡ false
+    year-before h =
+        let j = monthCount y (x .month) + n * monthsOf part - b * monthsOf part in
+        elim (decLt (monthCount y (x .month) + n * monthsOf part) (b * monthsOf part)) [
+          | yes e ↦ year-below e
+          | no e ↦ year-at j (omega arith) ∙ left-out (leb (12 * firstYear (hasYearZero c)) j) (ltb j 240000) (lt-leb (12 * firstYear (hasYearZero c)) j (omega arith))
+        ]
 
-    pub months-far : k < o → DateAnswer.Refused OutOfRange ≡ monthsAnswer c (lower k) x
-    months-far h = outside (monthsAfter c (lower k) x) (months-past h) ∙ months-answered (lower k)
+    pub year-past : b * monthsOf part + 240000 ≤ monthCount y (x .month) + n * monthsOf part → inYears (dateAfter part c (subℕ n b) x .year) ≡ false
+    year-past h =
+        let j = monthCount y (x .month) + n * monthsOf part - b * monthsOf part in
+        year-at j (omega arith) ∙ right-out (leb (12 * firstYear (hasYearZero c)) j) (ltb j 240000) (le-ltb j 240000 (omega arith))
 
-    -- the date, by the count of its month
-    pub months-on : o ≤ k → dateIn c (monthAt c (k - o)) (x .day) ≡ monthsAfter c (lower k) x
-    unfolding monthsAfter
-    months-on h = ap (λ (p : YearMonth). dateIn c p (x .day)) (sym (months-reached (k - o)) ∙ ap (λ (z : ℤ). monthsOn c z (monthOf x)) (onward (monthCount x y) o is (omega (arith, count-small)) k h))
-
-    pub months-near : o ≤ k → within (dateIn c (monthAt c (k - o)) (x .day)) ≡ monthsAnswer c (lower k) x
-    months-near h = ap within (months-on h) ∙ months-answered (lower k)
-
-    -- where it is known to lie in the years
-    pub months-inside : inYears (monthsAfter c (lower k) x .year) ≡ true → (o ≤ k) × ((k - o) / 12 < 20000)
-    months-inside h =
-        let l : o ≤ k = elim (decLt k o) [ yes e ↦ absurd (true≢false (sym h ∙ months-past e)) | no e ↦ omega arith ] in
-        (l, counted ((k - o) / 12) (ap (λ (d : Date). inYears (d .year)) (months-on l) ∙ h))
-
-  -- ---- years
-
-  pub years-reached : (n : ℕ) → yearsOn c (subℕ n y) (x .year) ≡ yearAt (hasYearZero c) n
-  years-reached n = ap (yearsOn c (subℕ n y)) (sym (g .year)) ∙ years-at c y n
-
-  years-answered : (z : ℤ) → within (yearsAfter c z x) ≡ yearsAnswer c z x
-  unfolding yearsAnswer
-  years-answered z = ap (λ (a : DayAnswer). dateFrom a (within (yearsAfter c z x))) (sym (g .numbered))
-
-  module _ (k o : ℕ) (is : o ≡ 9223372036854775808 - y) where
-    years-past : k < o → inYears (yearsAfter c (lower k) x .year) ≡ false
-    unfolding yearsAfter
-    years-past h = ap (λ (u : ℤ). inYears (yearsOn c (lower k) u)) (sym (g .year)) ∙ years-below c y (lower k) (below y o is (omega (arith, year-small)) k h)
-
-    pub years-far : k < o → DateAnswer.Refused OutOfRange ≡ yearsAnswer c (lower k) x
-    years-far h = outside (yearsAfter c (lower k) x) (years-past h) ∙ years-answered (lower k)
-
-    -- the date, by the count of its year
-    pub years-on : o ≤ k → dateIn c (yearMonth (yearAt (hasYearZero c) (k - o)) (x .month)) (x .day) ≡ yearsAfter c (lower k) x
-    unfolding yearsAfter
-    years-on h = ap (λ (u : ℤ). dateIn c (yearMonth u (x .month)) (x .day)) (sym (years-reached (k - o)) ∙ ap (λ (z : ℤ). yearsOn c z (x .year)) (onward y o is (omega (arith, year-small)) k h))
-
-    pub years-near : o ≤ k → within (dateIn c (yearMonth (yearAt (hasYearZero c) (k - o)) (x .month)) (x .day)) ≡ yearsAnswer c (lower k) x
-    years-near h = ap within (years-on h) ∙ years-answered (lower k)
+    pub year-between : b * monthsOf part + 12 * firstYear (hasYearZero c) ≤ monthCount y (x .month) + n * monthsOf part → monthCount y (x .month) + n * monthsOf part < b * monthsOf part + 240000 → inYears (dateAfter part c (subℕ n b) x .year) ≡ true
+    year-between h g =
+        let j = monthCount y (x .month) + n * monthsOf part - b * monthsOf part in
+        year-at j (omega arith) ∙ both (leb (12 * firstYear (hasYearZero c)) j) (ltb j 240000) (le-leb (12 * firstYear (hasYearZero c)) j (omega arith)) (lt-ltb j 240000 (omega arith))
 
     -- where it is known to lie in the years
-    pub years-inside : inYears (yearsAfter c (lower k) x .year) ≡ true → (o ≤ k) × (k - o < 20000)
-    years-inside h =
-        let l : o ≤ k = elim (decLt k o) [ yes e ↦ absurd (true≢false (sym h ∙ years-past e)) | no e ↦ omega arith ] in
-        (l, counted (k - o) (ap (λ (d : Date). inYears (d .year)) (years-on l) ∙ h))
+    pub record Inside : Type 0 where
+      pub from : b * monthsOf part ≤ monthCount y (x .month) + n * monthsOf part
+      pub to : monthCount y (x .month) + n * monthsOf part - b * monthsOf part < 240000
+      pub few : (b < n + 240000) × (n < b + 240000)
 
--- a date that is refused
-module _ (c : Calendar) (x : Date) (r : Refusal) (h : dayAnswer c x ≡ DayAnswer.Refused r) where
-  pub refused : (a : DateAnswer) → DateAnswer.Refused r ≡ dateFrom (dayAnswer c x) a
-  refused a = ap (λ (u : DayAnswer). dateFrom u a) (sym h)
+    pub inside : inYears (dateAfter part c (subℕ n b) x .year) ≡ true → Inside
+    inside h =
+        let i = monthCount y (x .month) in
+        let j = i + n * monthsOf part - b * monthsOf part in
+        let l : b * monthsOf part ≤ i + n * monthsOf part = elim (decLt (i + n * monthsOf part) (b * monthsOf part)) [ yes e ↦ absurd (true≢false (sym h ∙ year-below e)) | no e ↦ omega arith ] in
+        let e : j + b * monthsOf part ≡ i + n * monthsOf part = omega arith in
+        let t = ltb-true j 240000 (and-parts (leb (12 * firstYear (hasYearZero c)) j) (ltb j 240000) (sym (year-at j e) ∙ h) .1) in
+        record { from = l; to = t; few = steps-few part n b i j count-small t e }
 
-  pub first-refused : (d : Date) (a : StepAnswer) → StepAnswer.Refused r ≡ stepFrom (dayAnswer c x) (dayAnswer c d) a
-  first-refused d a = ap (λ (u : DayAnswer). stepFrom u (dayAnswer c d) a) (sym h)
+-- ---- the number of steps from x to d
 
-  pub second-refused : (d : Date) (y : ℕ) → Begun c d y → (a : StepAnswer) → StepAnswer.Refused r ≡ stepFrom (dayAnswer c d) (dayAnswer c x) a
-  second-refused d y g a = λ i. stepFrom (sym (g .numbered) i) (sym h i) a
+module _ (part : Part) (c : Calendar) (x d : Date) where
+  pub none : ((n : ℤ) → dateAfter part c n x ≡ d → ⊥) → StepAnswer.Nothing ≡ stepsBetween part c x d
+  unfolding stepsBetween
+  none f = sym (found-none (λ (z : ℤ). dateAfter part c z x) d f)
 
--- ---- the number of steps between two dates
+  pub found : (n b : ℕ) → b < n + 240000 → n < b + 240000 → dateAfter part c (subℕ n b) x ≡ d → StepAnswer.Is (subℕ n b) ≡ stepsBetween part c x d
+  unfolding stepsBetween
+  found n b p q e =
+      let s : subℕ (n + 240000 - b) 240000 ≡ subℕ n b = same-diff (n + 240000 - b) 240000 n b (omega arith) in
+      let F : ℤ → Date = λ z. dateAfter part c z x in
+      sym (found-at F d (one-number F (dates-rise c part x)) (n + 240000 - b) (omega arith) (ap F s ∙ e) ∙ ap StepAnswer.Is s)
 
--- where only b - a can lead to d
-record Sought (F : ℤ → Date) (d : Date) (a b : ℕ) : Type 0 where
-  found : F (subℕ b a) ≡ d → numberAt F d ≡ StepAnswer.Is (subℕ b a)
-  none : (F (subℕ b a) ≡ d → ⊥) → numberAt F d ≡ StepAnswer.Nothing
-  number : (n : ℤ) → F n ≡ d → numberAt F d ≡ StepAnswer.Is n
+  -- no number leads to another day of the month of d than the one that is kept, nor steps by years to another month
+  pub other-day : (downTo c (d .year) (d .month) (x .day) ≡ d .day → ⊥) → (n : ℤ) → dateAfter part c n x ≡ d → ⊥
+  unfolding dateAfter
+  other-day f n e = f (sym (λ i. downTo c (e i .year) (e i .month) (x .day)) ∙ ap (λ (u : Date). u .day) e)
 
-sought : (F : ℤ → Date) (one : (z w : ℤ) → F z ≡ F w → z ≡ w) (d : Date) (a b : ℕ) → a < 240000 → b < 240000 → ((n : ℤ) → F n ≡ d → n ≡ subℕ b a) → Sought F d a b
-sought F one d a b p q only =
-    record {
-      found = found;
-      none = λ f. found-none F d (λ n e. f (ap F (sym (only n e)) ∙ e));
-      number = λ n e. found (ap F (sym (only n e)) ∙ e) ∙ ap StepAnswer.Is (sym (only n e));
-    }
-  where
-    found : F (subℕ b a) ≡ d → numberAt F d ≡ StepAnswer.Is (subℕ b a)
-    found e =
-        let s : subℕ (b + 240000 - a) 240000 ≡ subℕ b a = same-diff (b + 240000 - a) 240000 b a (omega arith) in
-        found-at F d one (b + 240000 - a) (omega arith) (ap F s ∙ e) ∙ ap StepAnswer.Is s
+  pub other-month : part ≡ Part.Year → (d .month ≡ x .month → ⊥) → (n : ℤ) → dateAfter part c n x ≡ d → ⊥
+  unfolding dateAfter
+  other-month y f n e = f (sym (ap (λ (u : Date). u .month) e) ∙ (ap (λ (p : Part). monthReached p c n (yearMonthOf x) .month) y ∙ month-kept c n (yearMonthOf x)))
 
--- the day of x, moved to the month of d, of year w
-abbrev pub keptDay : Calendar → Date → Date → ℕ → ℕ
-keptDay c x d w = downTo c (yearAt (hasYearZero c) w) (d .month) (x .day)
-
-module _ (c : Calendar) (x d : Date) (y w : ℕ) (g : Begun c x y) (h : Begun c d w) where
-  pub both-there : (a : StepAnswer) → a ≡ stepFrom (dayAnswer c x) (dayAnswer c d) a
-  both-there a = λ i. stepFrom (sym (g .numbered) i) (sym (h .numbered) i) a
-
-  -- ---- months
-
-  months-lead : monthsOn c (subℕ (monthCount d w) (monthCount x y)) (monthOf x) ≡ monthOf d
-  months-lead = months-reached c x y g (monthCount d w) ∙ month-counted c d w h
-
-  months-only : (n : ℤ) → monthsAfter c n x ≡ d → n ≡ subℕ (monthCount d w) (monthCount x y)
-  unfolding monthsAfter
-  months-only n e =
-      one-number (λ (z : ℤ). date (monthsOn c z (monthOf x) .year) (monthsOn c z (monthOf x) .month) 0) (months-rise c (monthOf x)) n (subℕ (monthCount d w) (monthCount x y))
-      (date-eq (ap (λ (u : Date). u .year) e ∙ sym (ap (λ (p : YearMonth). p .year) months-lead)) (ap (λ (u : Date). u .month) e ∙ sym (ap (λ (p : YearMonth). p .month) months-lead)) refl)
-
-  months-date : monthsAfter c (subℕ (monthCount d w) (monthCount x y)) x ≡ date (d .year) (d .month) (keptDay c x d w)
-  unfolding monthsAfter
-  months-date = ap (λ (p : YearMonth). dateIn c p (x .day)) months-lead ∙ date-eq refl refl (ap (λ (u : ℤ). downTo c u (d .month) (x .day)) (sym (h .year)))
-
-  months-sought : Sought (λ (z : ℤ). monthsAfter c z x) d (monthCount x y) (monthCount d w)
-  months-sought = sought (λ (z : ℤ). monthsAfter c z x) (one-number (λ (z : ℤ). monthsAfter c z x) (months-before c x)) d (monthCount x y) (monthCount d w) (count-small c x y g) (count-small c d w h) months-only
-
-  pub months-found : (n : ℤ) → monthsAfter c n x ≡ d → numberAt (λ (z : ℤ). monthsAfter c z x) d ≡ StepAnswer.Is n
-  months-found = months-sought .number
-
-  pub months-is : keptDay c x d w ≡ d .day → StepAnswer.Is (subℕ (monthCount d w) (monthCount x y)) ≡ monthsBetween c x d
-  unfolding monthsBetween
-  months-is e = sym (months-sought .found (months-date ∙ date-eq refl refl e)) ∙ both-there (numberAt (λ (z : ℤ). monthsAfter c z x) d)
-
-  pub months-none : (keptDay c x d w ≡ d .day → ⊥) → StepAnswer.Nothing ≡ monthsBetween c x d
-  unfolding monthsBetween
-  months-none f = sym (months-sought .none (λ e. f (ap (λ (u : Date). u .day) (sym months-date ∙ e)))) ∙ both-there (numberAt (λ (z : ℤ). monthsAfter c z x) d)
-
-  -- ---- years
-
-  years-lead : yearsOn c (subℕ w y) (x .year) ≡ d .year
-  years-lead = years-reached c x y g w ∙ h .year
-
-  years-only : (n : ℤ) → yearsAfter c n x ≡ d → n ≡ subℕ w y
-  unfolding yearsAfter
-  years-only n e =
-      one-number (λ (z : ℤ). date (yearsOn c z (x .year)) 1 1) (λ z u l. by-year (years-rise c (x .year) z u l)) n (subℕ w y)
-      (date-eq (ap (λ (u : Date). u .year) e ∙ sym years-lead) refl refl)
-
-  years-date : yearsAfter c (subℕ w y) x ≡ date (d .year) (x .month) (keptDay c x x w)
-  unfolding yearsAfter
-  years-date = ap (λ (u : ℤ). dateIn c (yearMonth u (x .month)) (x .day)) years-lead ∙ date-eq refl refl (ap (λ (u : ℤ). downTo c u (x .month) (x .day)) (sym (h .year)))
-
-  years-sought : Sought (λ (z : ℤ). yearsAfter c z x) d y w
-  years-sought = sought (λ (z : ℤ). yearsAfter c z x) (one-number (λ (z : ℤ). yearsAfter c z x) (years-before c x)) d y w (omega (arith, year-small c x y g)) (omega (arith, year-small c d w h)) years-only
-
-  pub years-found : (n : ℤ) → yearsAfter c n x ≡ d → numberAt (λ (z : ℤ). yearsAfter c z x) d ≡ StepAnswer.Is n
-  years-found = years-sought .number
-
-  pub years-is : d .month ≡ x .month → keptDay c x x w ≡ d .day → StepAnswer.Is (subℕ w y) ≡ yearsBetween c x d
-  unfolding yearsBetween
-  years-is m e = sym (years-sought .found (years-date ∙ date-eq refl (sym m) e)) ∙ both-there (numberAt (λ (z : ℤ). yearsAfter c z x) d)
-
-  pub years-none : (d .month ≡ x .month → keptDay c x x w ≡ d .day → ⊥) → StepAnswer.Nothing ≡ yearsBetween c x d
-  unfolding yearsBetween
-  years-none f =
-      sym (years-sought .none (λ e. let u = sym years-date ∙ e in f (sym (ap (λ (v : Date). v .month) u)) (ap (λ (v : Date). v .day) u)))
-      ∙ both-there (numberAt (λ (z : ℤ). yearsAfter c z x) d)
+  module _ (y w : ℕ) (g : YearOf c x y) (h : YearOf c d w) where
+    pub found-between : (n b : ℕ) → monthCount w (d .month) + b * monthsOf part ≡ monthCount y (x .month) + n * monthsOf part → downTo c (d .year) (d .month) (x .day) ≡ d .day → StepAnswer.Is (subℕ n b) ≡ stepsBetween part c x d
+    found-between n b e k =
+        let l = steps-few part n b (monthCount y (x .month)) (monthCount w (d .month)) (count-small c x y g) (count-small c d w h) e in
+        found n b (l .0) (l .1) (sym (date-at c x y g part n b (monthCount w (d .month)) e) ∙ (ap (λ (p : YearMonth). dateDown c p (x .day)) (month-counted c d w h) ∙ date-eq refl refl k))

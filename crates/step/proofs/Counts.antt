@@ -1,14 +1,15 @@
--- Steps as arithmetic: on years counted from -10000, and on months counted from January of that year.
+-- Steps as arithmetic, on months counted from January of year -10000.
 use mathlib.Core.Path.{_≡_, refl, sym, ap, _∙_}
-use mathlib.Core.Bool.{Bool, true, false, true≢false}
-use Prim.Native.Nat.{ℕ, suc, _+_, _-_, _*_, _/_, _%_, _≤_}
+use mathlib.Core.Bool.{Bool, true, false, cond, true≢false}
+use Prim.Native.Nat.{ℕ, suc, _+_, _-_, _*_, _/_, _%_, _<_, _≤_}
 use native.Mathlib.Omega.{arith}
 use lib.Dec.{ltb}
 use lib.IntN.{ℤ, pos, negsuc, subℕ}
 use lib.Signed.{leZ, ltZ}
-use borrow.Author.Tests.{ltb-true, ltb-false}
+use borrow.Author.Tests.{lt-ltb, ltb-true, ltb-false}
 use Rattle.signed.proofs.Tests.{left-out, to-false}
 use Rattle.signed.proofs.Order.{le-trans, le-refl, le-of-lt}
+use Rattle.signed.proofs.Differences.{same-diff, sub-lt}
 use Rattle.calendar.specs.Calendar.{hasYearZero, yearAfter, yearBefore, inYears, date}
 use Rattle.calendar.specs.Closed.{yearAt}
 use Rattle.calendar.specs.declared.Calendar.{Calendar}
@@ -16,10 +17,11 @@ use Rattle.calendar.specs.declared.Date.{Date}
 use Rattle.calendar.proofs.Existing.{before-after}
 use Rattle.calendar.proofs.Labels.{year-after, year-there}
 use Rattle.calendar.proofs.Ordered.{Before, by-year, by-month, by-day}
-use Rattle.step.specs.Closed.{monthAt}
-use Rattle.step.specs.Months.{YearMonth, yearMonth, pickMonth, monthAfter, monthBefore, monthsOn, yearsOn}
+use Rattle.step.specs.Closed.{monthAt, monthCount, monthsOf}
+use Rattle.step.specs.Steps.{YearMonth, yearMonth, stepAfter, stepBefore, monthReached}
+use Rattle.step.specs.declared.Part.{Part}
 use Rattle.step.proofs.Steps.{sequence}
-use Rattle.step.proofs.Order.{months-rise, years-rise}
+use Rattle.step.proofs.Order.{months-rise}
 
 month-eq : {p q : YearMonth} → p .year ≡ q .year → p .month ≡ q .month → p ≡ q
 month-eq a b = λ i. record { year = a i; month = b i }
@@ -37,63 +39,72 @@ too-early t u h = left-out (leZ (negsuc 9998) u) (leZ u (pos 9999)) (to-false (l
     bottom true = refl
     bottom false = refl
 
-module _ (c : Calendar) where
-  -- ---- years
+-- steps that would lead below month 0 are more than the q that lead back to a month r of its year
+record Lowest (part : Part) (n b i : ℕ) : Type 0 where
+  r : ℕ
+  q : ℕ
+  small : r < 12
+  reached : r + q * monthsOf part ≡ i + 0 * monthsOf part
+  further : n + q < b
 
+lowest : (part : Part) (n b i : ℕ) → i + n * monthsOf part < b * monthsOf part → Lowest part n b i
+lowest Part.Month n b i h = record { r = 0; q = i; small = omega arith; reached = omega arith; further = omega arith }
+lowest Part.Year n b i h = record { r = i % 12; q = i / 12; small = omega arith; reached = omega arith; further = omega arith }
+
+module _ (c : Calendar) where
   year-before : (y : ℕ) → yearBefore c (yearAt (hasYearZero c) (suc y)) ≡ yearAt (hasYearZero c) y
   year-before y = ap (yearBefore c) (sym (year-after c y)) ∙ before-after c (yearAt (hasYearZero c) y) (year-there c y)
 
-  -- n - b years on from year b is year n
-  pub years-at : (b n : ℕ) → yearsOn c (subℕ n b) (yearAt (hasYearZero c) b) ≡ yearAt (hasYearZero c) n
-  years-at = sequence (yearAfter c) (yearBefore c) (yearAt (hasYearZero c)) (year-after c) year-before
-
-  pub years-below : (b : ℕ) (z : ℤ) → ltZ z (subℕ 0 b) ≡ true → inYears (yearsOn c z (yearAt (hasYearZero c) b)) ≡ false
-  years-below b z h =
-      let y = yearAt (hasYearZero c) b in
-      too-early (hasYearZero c) (yearsOn c z y) (le-of-lt (yearsOn c z y) (yearAt (hasYearZero c) 0) (ap (ltZ (yearsOn c z y)) (sym (years-at b 0)) ∙ years-rise c y z (subℕ 0 b) h))
-
-  -- ---- months
-
-  month-on : (i : ℕ) → monthAfter c (monthAt c i) ≡ monthAt c (suc i)
-  unfolding monthAfter
-  month-on i = go (ltb (i % 12 + 1) 12) refl
+  month-on : (part : Part) (i : ℕ) → stepAfter part c (monthAt c i) ≡ monthAt c (i + monthsOf part)
+  unfolding stepAfter
+  month-on Part.Month i = go (ltb (i % 12 + 1) 12) refl
     where
-      go : (t : Bool) → ltb (i % 12 + 1) 12 ≡ t → pickMonth t (yearMonth (yearAt (hasYearZero c) (i / 12)) (i % 12 + 1 + 1)) (yearMonth (yearAfter c (yearAt (hasYearZero c) (i / 12))) 1) ≡ monthAt c (suc i)
+      go : (t : Bool) → ltb (i % 12 + 1) 12 ≡ t → cond t (yearMonth (yearAt (hasYearZero c) (i / 12)) (i % 12 + 1 + 1)) (yearMonth (yearAfter c (yearAt (hasYearZero c) (i / 12))) 1) ≡ monthAt c (i + 1)
       go true e =
           let l = ltb-true (i % 12 + 1) 12 e in
-          let y : i / 12 ≡ suc i / 12 = omega arith in
+          let y : i / 12 ≡ (i + 1) / 12 = omega arith in
           month-eq (ap (yearAt (hasYearZero c)) y) (omega arith)
       go false e =
           let l = ltb-false (i % 12 + 1) 12 e in
-          let y : suc (i / 12) ≡ suc i / 12 = omega arith in
+          let y : suc (i / 12) ≡ (i + 1) / 12 = omega arith in
           month-eq (year-after c (i / 12) ∙ ap (yearAt (hasYearZero c)) y) (omega arith)
+  month-on Part.Year i = let y : suc (i / 12) ≡ (i + 12) / 12 = omega arith in month-eq (year-after c (i / 12) ∙ ap (yearAt (hasYearZero c)) y) (omega arith)
 
-  month-back : (i : ℕ) → monthBefore c (monthAt c (suc i)) ≡ monthAt c i
-  unfolding monthBefore
-  month-back i = go (ltb 1 (suc i % 12 + 1)) refl
+  month-back : (part : Part) (i : ℕ) → stepBefore part c (monthAt c (i + monthsOf part)) ≡ monthAt c i
+  unfolding stepBefore
+  month-back Part.Month i = go (ltb 1 ((i + 1) % 12 + 1)) refl
     where
-      go : (t : Bool) → ltb 1 (suc i % 12 + 1) ≡ t → pickMonth t (yearMonth (yearAt (hasYearZero c) (suc i / 12)) (suc i % 12 + 1 - 1)) (yearMonth (yearBefore c (yearAt (hasYearZero c) (suc i / 12))) 12) ≡ monthAt c i
+      go : (t : Bool) → ltb 1 ((i + 1) % 12 + 1) ≡ t → cond t (yearMonth (yearAt (hasYearZero c) ((i + 1) / 12)) ((i + 1) % 12 + 1 - 1)) (yearMonth (yearBefore c (yearAt (hasYearZero c) ((i + 1) / 12))) 12) ≡ monthAt c i
       go true e =
-          let l = ltb-true 1 (suc i % 12 + 1) e in
-          let y : suc i / 12 ≡ i / 12 = omega arith in
+          let l = ltb-true 1 ((i + 1) % 12 + 1) e in
+          let y : (i + 1) / 12 ≡ i / 12 = omega arith in
           month-eq (ap (yearAt (hasYearZero c)) y) (omega arith)
       go false e =
-          let l = ltb-false 1 (suc i % 12 + 1) e in
-          let y : suc i / 12 ≡ suc (i / 12) = omega arith in
+          let l = ltb-false 1 ((i + 1) % 12 + 1) e in
+          let y : (i + 1) / 12 ≡ suc (i / 12) = omega arith in
           month-eq (ap (λ (n : ℕ). yearBefore c (yearAt (hasYearZero c) n)) y ∙ year-before (i / 12)) (omega arith)
+  month-back Part.Year i =
+      let y : (i + 12) / 12 ≡ suc (i / 12) = omega arith in
+      month-eq (ap (λ (n : ℕ). yearBefore c (yearAt (hasYearZero c) n)) y ∙ year-before (i / 12)) (omega arith)
 
-  -- i - b months on from month b is month i
-  pub months-at : (b i : ℕ) → monthsOn c (subℕ i b) (monthAt c b) ≡ monthAt c i
-  months-at = sequence (monthAfter c) (monthBefore c) (monthAt c) month-on month-back
+  -- n - b steps lead from month i to month i + (n - b) * monthsOf part
+  pub months-at : (part : Part) (n b i j : ℕ) → j + b * monthsOf part ≡ i + n * monthsOf part → monthReached part c (subℕ n b) (monthAt c i) ≡ monthAt c j
+  months-at part = sequence (stepAfter part c) (stepBefore part c) (monthsOf part) (monthAt c) (month-on part) (month-back part)
 
-  pub months-below : (b : ℕ) (z : ℤ) → ltZ z (subℕ 0 b) ≡ true → inYears (monthsOn c z (monthAt c b) .year) ≡ false
-  months-below b z h =
-      let p = monthsOn c z (monthAt c b) in
-      let q = monthsOn c (subℕ 0 b) (monthAt c b) in
-      too-early (hasYearZero c) (p .year) (ap (λ (r : YearMonth). leZ (p .year) (r .year)) (sym (months-at b 0)) ∙ not-later (date (p .year) (p .month) 0) (date (q .year) (q .month) 0) (months-rise c (monthAt c b) z (subℕ 0 b) h))
+  pub months-below : (part : Part) (n b i : ℕ) → i + n * monthsOf part < b * monthsOf part → inYears (monthReached part c (subℕ n b) (monthAt c i) .year) ≡ false
+  months-below part n b i h =
+      let w = lowest part n b i h in
+      let p = monthReached part c (subℕ n b) (monthAt c i) in
+      let q = monthReached part c (subℕ 0 (w .q)) (monthAt c i) in
+      let zeroth : w .r / 12 ≡ 0 = omega (arith, w .small) in
+      let less : ltZ (subℕ n b) (subℕ 0 (w .q)) ≡ true =
+      (λ k. ltZ (same-diff n b (n + w .q) (b + w .q) (omega arith) k) (same-diff 0 (w .q) b (b + w .q) (omega arith) k)) ∙ (sub-lt (n + w .q) b (b + w .q) ∙ lt-ltb (n + w .q) b (w .further)) in
+      too-early (hasYearZero c) (p .year)
+      (ap (leZ (p .year)) (sym (ap (λ (r : YearMonth). r .year) (months-at part 0 (w .q) i (w .r) (w .reached)) ∙ ap (yearAt (hasYearZero c)) zeroth))
+      ∙ not-later (date (p .year) (p .month) 0) (date (q .year) (q .month) 0) (months-rise c part (monthAt c i) (subℕ n b) (subℕ 0 (w .q)) less))
 
   -- month m of year y, by its count
-  pub month-is : (y m : ℕ) → 1 ≤ m → m ≤ 12 → monthAt c (12 * y + (m - 1)) ≡ yearMonth (yearAt (hasYearZero c) y) m
+  pub month-is : (y m : ℕ) → 1 ≤ m → m ≤ 12 → monthAt c (monthCount y m) ≡ yearMonth (yearAt (hasYearZero c) y) m
   month-is y m a b =
-      let e : (12 * y + (m - 1)) / 12 ≡ y = omega arith in
+      let e : monthCount y m / 12 ≡ y = omega arith in
       month-eq (ap (yearAt (hasYearZero c)) e) (omega arith)

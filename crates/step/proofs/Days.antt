@@ -11,7 +11,7 @@ use Rattle.signed.proofs.Tests.{both, and-parts}
 use Rattle.calendar.specs.Calendar.{exists, date, lastDay, isStandard, dropped}
 use Rattle.calendar.specs.declared.Calendar.{Calendar}
 use Rattle.calendar.proofs.Existing.{Valid, exists-of, long, noYear, not-missing, not-there, Dropped, dropped-of, is-dropped, valid-day}
-use Rattle.step.specs.Months.{downTo}
+use Rattle.step.specs.Steps.{YearMonth, yearMonth, downTo}
 
 module _ (c : Calendar) (y : ℤ) (m : ℕ) where
   -- a day that exists is kept
@@ -40,10 +40,10 @@ module _ (c : Calendar) (y : ℤ) (m : ℕ) where
       ap (downTo c y m) (sym e) ∙ (passed a (d - a) (λ k p q. not-there c (date y m k) (f k p (omega arith))) ∙ here a h)
 
 -- a month of the calendar
-pub record Proper (c : Calendar) (y : ℤ) (m : ℕ) : Type 0 where
-  pub year : noYear c y ≡ false
-  pub low : 1 ≤ m
-  pub high : m ≤ 12
+pub record IsMonth (c : Calendar) (p : YearMonth) : Type 0 where
+  pub year : noYear c (p .year) ≡ false
+  pub low : 1 ≤ p .month
+  pub high : p .month ≤ 12
 
 -- which day is kept
 pub data Kept (c : Calendar) (y : ℤ) (m d : ℕ) : ℕ → Type 0 where
@@ -51,7 +51,7 @@ pub data Kept (c : Calendar) (y : ℤ) (m d : ℕ) : ℕ → Type 0 where
   last : lastDay c y m < d → Kept c y m d (lastDay c y m)
   last-julian : isStandard c ≡ true → y ≡ pos 1582 → m ≡ 10 → 4 < d → d < 15 → Kept c y m d 4
 
-module _ (c : Calendar) (y : ℤ) (m : ℕ) (p : Proper c y m) where
+module _ (c : Calendar) (y : ℤ) (m : ℕ) (p : IsMonth c (yearMonth y m)) where
   -- a day of the month that was not dropped
   day-there : (d : ℕ) → 1 ≤ d → d ≤ lastDay c y m → (isStandard c ≡ true → Dropped (date y m d) → ⊥) → exists c (date y m d) ≡ true
   day-there d a b f = exists-of c (date y m d) (record { month-low = p .low; month-high = p .high; day-low = a; day-high = b; there = not-missing c (date y m d) (p .year) f })

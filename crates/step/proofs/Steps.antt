@@ -1,9 +1,9 @@
 -- Steps on and back in general: what they reach, and in which order.
 use mathlib.Core.Path.{_≡_, refl, sym, ap, _∙_, subst}
 use mathlib.Core.Bool.{Bool, true, false, true≢false}
-use Prim.Native.Nat.{ℕ, zero, suc, _+_, _-_}
+use Prim.Native.Nat.{ℕ, zero, suc, _+_, _-_, _*_, _≤_}
 use native.Mathlib.Omega.{arith}
-use native.Mathlib.Nat.{add-zero, add-suc}
+use native.Mathlib.Nat.{zero-mul, suc-mul, add-mul}
 use lib.IntN.{ℤ, pos, negsuc, sucℤ, subℕ}
 use lib.Signed.{ltZ}
 use borrow.Author.Tests.{ltb-true, ltb-false}
@@ -13,23 +13,30 @@ use Rattle.calendar.specs.Calendar.{times}
 use Rattle.calendar.specs.Order.{earlier}
 use Rattle.calendar.specs.declared.Date.{Date}
 use Rattle.calendar.proofs.Ordered.{Before, before-of, earlier-of, before-trans, not-before}
-use Rattle.step.specs.Months.{steps}
+use Rattle.step.specs.Steps.{steps}
 
--- a sequence with a step on from each place to the next: n - b steps lead from place b to place n
-module _ {A : Type 0} (on back : A → A) (L : ℕ → A) (up : (n : ℕ) → on (L n) ≡ L (suc n)) (down : (n : ℕ) → back (L (suc n)) ≡ L n) where
-  ups : (b n : ℕ) → times n on (L b) ≡ L (b + n)
+-- a sequence in which a step leads k places on: n - b steps lead from place i to place i + (n - b) * k
+module _ {A : Type 0} (on back : A → A) (k : ℕ) (L : ℕ → A) (up : (i : ℕ) → on (L i) ≡ L (i + k)) (down : (i : ℕ) → back (L (i + k)) ≡ L i) where
+  ups : (n i : ℕ) → times n on (L i) ≡ L (i + n * k)
   unfolding times
-  ups b zero = ap L (sym (add-zero b))
-  ups b (suc n) = ap on (ups b n) ∙ (up (b + n) ∙ ap L (sym (add-suc b n)))
+  ups zero i = ap L (omega (arith, zero-mul k))
+  ups (suc n) i = ap on (ups n i) ∙ (up (i + n * k) ∙ ap L (omega (arith, suc-mul n k)))
 
-  downs : (k b n : ℕ) → n + k ≡ b → times k back (L b) ≡ L n
+  downs : (n i j : ℕ) → j + n * k ≡ i → times n back (L i) ≡ L j
   unfolding times
-  downs zero b n e = ap L (omega arith)
-  downs (suc k) b n e = ap back (downs k b (suc n) (omega arith)) ∙ down n
+  downs zero i j e = ap L (omega (arith, zero-mul k))
+  downs (suc n) i j e = ap back (downs n i (j + k) (omega (arith, suc-mul n k))) ∙ down j
 
-  pub sequence : (b n : ℕ) → steps on back (subℕ n b) (L b) ≡ L n
+  -- the difference of two numbers of steps, in places
+  apart : (m n : ℕ) → n ≤ m → (m - n) * k + n * k ≡ m * k
+  apart m n h = let e : m - n + n ≡ m = omega arith in sym (add-mul (m - n) n k) ∙ ap (λ (d : ℕ). d * k) e
+
+  pub sequence : (n b i j : ℕ) → j + b * k ≡ i + n * k → steps on back (subℕ n b) (L i) ≡ L j
   unfolding steps
-  sequence b n = by-sign (λ (z : ℤ). steps on back z (L b) ≡ L n) n b (λ h. downs (suc (b - suc n)) b n (omega arith)) (λ h. ups b (n - b) ∙ ap L (omega arith))
+  sequence n b i j e =
+      by-sign (λ (z : ℤ). steps on back z (L i) ≡ L j) n b
+      (λ h. let d : b - n ≡ suc (b - suc n) = omega arith in downs (suc (b - suc n)) i j (omega (arith, apart b n (omega arith), ap (λ (m : ℕ). m * k) d)))
+      (λ h. ups (n - b) i ∙ ap L (omega (arith, apart n b h)))
 
 -- steps that rise: of two numbers the greater leads further, wherever the steps begin
 module _ {A : Type 0} (on back : A → A) (Lt : A → A → Type 0) (trans : (x y z : A) → Lt x y → Lt y z → Lt x z) (up : (x : A) → Lt x (on x)) (down : (x : A) → Lt (back x) x) (x : A) where

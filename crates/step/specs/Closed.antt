@@ -1,37 +1,34 @@
--- Closed forms, which only private functions compute; no promise to a caller rests on them. proofs/ joins them to the steps.
+-- Closed forms, which only inner functions compute; no promise to a caller of the library rests on them. proofs/ joins them to the steps.
 -- Years are counted from -10000 as in `calendar`, and months from January of that year.
 use mathlib.Core.Bool.{true}
 use mathlib.Core.Path.{_≡_}
-use Prim.Native.Nat.{ℕ, _+_, _/_, _%_}
-use lib.IntN.{ℤ}
+use Prim.Native.Nat.{ℕ, _+_, _-_, _*_, _/_, _%_}
 use Rattle.calendar.specs.Calendar.{hasYearZero, exists, inYears}
-use Rattle.calendar.specs.Answers.{dayAnswer}
 use Rattle.calendar.specs.Closed.{yearAt}
 use Rattle.calendar.specs.declared.Calendar.{Calendar}
 use Rattle.calendar.specs.declared.Date.{Date}
-use Rattle.calendar.specs.declared.DayAnswer.{DayAnswer}
-use Rattle.step.specs.Months.{YearMonth, yearMonth, monthsAfter, yearsAfter}
-use Rattle.step.specs.declared.YearAnswer.{YearAnswer}
-use Rattle.step.specs.declared.reached.Part.{Part}
+use Rattle.step.specs.Steps.{YearMonth, yearMonth}
+use Rattle.step.specs.declared.Part.{Part}
 
 -- month i
 abbrev pub monthAt : Calendar → ℕ → YearMonth
 monthAt c i = yearMonth (yearAt (hasYearZero c) (i / 12)) (i % 12 + 1)
 
--- a date that steps can begin at: it exists, in year y
-pub record Begun (c : Calendar) (x : Date) (y : ℕ) : Type 0 where
-  pub number : ℤ
-  pub numbered : dayAnswer c x ≡ DayAnswer.Is number
+-- the count of month m of year y
+abbrev pub monthCount : ℕ → ℕ → ℕ
+monthCount y m = 12 * y + (m - 1)
+
+-- the months that a step leads on: z steps lead from month i to month i + z * monthsOf part
+abbrev pub monthsOf : Part → ℕ
+monthsOf Part.Month = 1
+monthsOf Part.Year = 12
+
+-- a date that has a day number: one that exists in the years -9999 to 9999
+pub record HasNumber (c : Calendar) (x : Date) : Type 0 where
   pub inside : inYears (x .year) ≡ true
   pub there : exists c x ≡ true
-  pub year : yearAt (hasYearZero c) y ≡ x .year
 
--- the year of a date, or its refusal
-abbrev pub YearOf : Calendar → Date → YearAnswer → Type 0
-YearOf c x (YearAnswer.Is y) = Begun c x y
-YearOf c x (YearAnswer.Refused r) = dayAnswer c x ≡ DayAnswer.Refused r
-
--- the date z steps after x, by the part of the date that they move
-abbrev pub movedBy : Part → Calendar → ℤ → Date → Date
-movedBy Part.Month = monthsAfter
-movedBy Part.Year = yearsAfter
+-- y is the year of such a date
+pub record YearOf (c : Calendar) (x : Date) (y : ℕ) : Type 0 where
+  pub date : HasNumber c x
+  pub is : yearAt (hasYearZero c) y ≡ x .year

@@ -1,3 +1,3 @@
-pub mod Months
+pub mod Steps
 pub mod Answers
 pub mod Closed

@@ -1,50 +1,84 @@
-// Steps by months and years in a calendar, for calendar mode: the date that lies a number of months or years after a date, and
-// the number of months or years from one date to another. All four calls are total.
+// Steps by months and years in a calendar, for calendar mode: the day that a number of steps leads to from a date, and the number of
+// steps from one date to another. Months and years are one step with a parameter. The dates of a caller exist in the years -9999 to 9999,
+// and it hands on the year of each, so that a run finds that of its reference once.
 ghost use mathlib.Core.Path.{_≡_};
-ghost use mathlib.Core.Bool.{cond};
+ghost use mathlib.Core.Bool.{true, cond};
 ghost use Prim.Native.Nat.{_+_, _-_, _*_, _<_, _≤_};
 ghost use lib.IntN.{subℕ};
-ghost use Rattle.calendar.specs.Calendar.{hasYearZero};
+ghost use Rattle.calendar.specs.Calendar.{hasYearZero, exists, dateOf, inYears};
 ghost use Rattle.calendar.specs.Closed.{yearAt};
-ghost use Rattle.step.specs.Answers.{within, monthsAnswer, yearsAnswer, monthsBetween, yearsBetween};
-ghost use Rattle.step.specs.Closed.{YearOf};
-ghost use Rattle.step.specs.Months.{yearMonth, downTo, dateIn};
+ghost use Rattle.calendar.specs.Answers.{dayAnswer};
+ghost use Rattle.step.specs.Answers.{stepsBetween};
+ghost use Rattle.step.specs.Closed.{monthAt, monthCount, monthsOf, HasNumber, YearOf};
+ghost use Rattle.step.specs.Steps.{downTo, dateDown, dateAfter};
 use calendar::Calendar;
 use calendar::Date;
-use calendar::DateAnswer;
 use calendar::DayAnswer;
 use calendar::YearCount;
 use refusal::Refusal;
 
-pub mod reached;
+// What a step moves: the month number or the year number of a date.
+pub enum Part {
+    Month,
+    Year,
+}
 
 // The number of steps from one date to another, or that no number of steps leads there.
 pub enum StepAnswer {
     Is(i64),
     Nothing,
-    Refused(Refusal),
 }
 
 // The year of a date, counted from -10000.
-pub enum YearAnswer {
-    Is(u64),
-    Refused(Refusal),
-}
-
-// The year of a date that exists in the years -9999 to 9999.
-pub fn year_of(c: Calendar, x: Date) -> YearAnswer
-    ensures { λ r. ⌜ YearOf c x r ⌝ }
+pub fn year_of(c: Calendar, x: Date) -> u64
+    requires { ⌜ HasNumber c x ⌝ }
+    ensures { λ y. ⌜ YearOf c x y ⌝ }
 {
-    match calendar::day_of_date(c, x) {
-        DayAnswer::Refused(r) => return YearAnswer::Refused(r),
-        DayAnswer::Is(_) => {
-            match calendar::year_count(calendar::has_year_zero(c), signed::biased(x.year)) {
-                YearCount::Is(y) => return YearAnswer::Is(y),
-                YearCount::Missing => return YearAnswer::Refused(Refusal::NoSuchDate),
-            }
-        }
+    match calendar::year_count(calendar::has_year_zero(c), signed::biased(x.year)) {
+        YearCount::Is(y) => return y,
+        YearCount::Missing => return 0,
     }
 }
+
+// ---- years, counted from -10000, and months, counted from January of that year
+
+fn month_count(y: u64, month: u32) -> u64
+    requires { ⌜ (y < 20000) × ((1 ≤ month) × (month ≤ 12)) ⌝ }
+    ensures { λ i. ⌜ i ≡ monthCount y month ⌝ }
+{
+    12 * y + (month - 1) as u64
+}
+
+// The months that a step leads on.
+fn months_of(part: Part) -> u64
+    ensures { λ m. ⌜ m ≡ monthsOf part ⌝ }
+{
+    match part {
+        Part::Month => return 1,
+        Part::Year => return 12,
+    }
+}
+
+// The month that k - 2^63 steps lead to from month i, counted from 240000 years before the others: no step leads below that.
+fn month_after(part: Part, i: u64, k: u64) -> u64
+    requires { ⌜ (i < 240000) × ((9223372036854535808 ≤ k) × (k < 9223372036855015808)) ⌝ }
+    ensures { λ j. ⌜ j + 240000 * monthsOf part ≡ i + 2880000 + (k - 9223372036854535808) * monthsOf part ⌝ }
+{
+    let m = months_of(part);
+    i + (2880000 - 240000 * m) + (k - (0x8000_0000_0000_0000 - 240000)) * m
+}
+
+// The least year that is not below -9999.
+fn first_year(c: Calendar) -> u64
+    ensures { λ y. ⌜ (y ≡ cond (hasYearZero c) 1 2) × (y ≤ 2) ⌝ }
+{
+    if calendar::has_year_zero(c) {
+        return 1;
+    }
+    return 2;
+}
+
+// ---- days
 
 // Day `day` of a month of year y, or the nearest day below it that exists.
 fn day_down(c: Calendar, y: u64, month: u32, day: u32) -> u32
@@ -60,75 +94,50 @@ fn day_down(c: Calendar, y: u64, month: u32, day: u32) -> u32
     return 0;
 }
 
-// The least year, counted from -10000, that is not below -9999.
-fn first_year(c: Calendar) -> u64
-    ensures { λ y. ⌜ y ≡ cond (hasYearZero c) 1 2 ⌝ }
+// The day number of day `day` of month i, or of the nearest day below it that exists.
+fn day_in(c: Calendar, i: u64, day: u32) -> i64
+    requires { ⌜ (i < 240000) × (exists c (dateDown c (monthAt c i) day) ≡ true) ⌝ }
+    ensures { λ n. ⌜ dateOf c n ≡ dateDown c (monthAt c i) day ⌝ }
 {
-    if calendar::has_year_zero(c) {
-        return 1;
-    }
-    return 2;
+    let y = i / 12;
+    let month = (i % 12 + 1) as u32;
+    calendar::ordinal::day_in_year(c, y, month, day_down(c, y, month, day))
 }
 
-// The date in a month of year y, counted from -10000; OutOfRange where the year lies past -9999 to 9999.
-fn date_in(c: Calendar, y: u64, month: u32, day: u32) -> DateAnswer
-    ensures { λ r. ⌜ r ≡ within (dateIn c (yearMonth (yearAt (hasYearZero c) y) month) day) ⌝ }
+// ---- steps from a date x of year y
+
+// The day number of the date n steps after x, which is known to lie in the years -9999 to 9999.
+pub fn day_after(c: Calendar, part: Part, x: Date, y: u64, n: i64) -> i64
+    requires { ⌜ YearOf c x y × (inYears (dateAfter part c n x .year) ≡ true) ⌝ }
+    ensures { λ k. ⌜ dateOf c k ≡ dateAfter part c n x ⌝ }
 {
-    if y < first_year(c) {
-        return DateAnswer::Refused(Refusal::OutOfRange);
-    }
-    if 19999 < y {
-        return DateAnswer::Refused(Refusal::OutOfRange);
-    }
-    return DateAnswer::Is(Date {
-        year: calendar::civil::year_name(calendar::has_year_zero(c), y),
-        month,
-        day: day_down(c, y, month, day),
-    });
+    let j = month_after(part, month_count(y, x.month), signed::biased(n));
+    day_in(c, j - 2880000, x.day)
 }
 
-// Month `month` of year y, counted from January of year -10000.
-fn month_count(y: u64, month: u32) -> u64
-    requires { ⌜ (y < 20000) × ((1 ≤ month) × (month ≤ 12)) ⌝ }
-    ensures { λ i. ⌜ i ≡ 12 * y + (month - 1) ⌝ }
+// The same with the test: OutOfRange where the year lies past -9999 to 9999.
+pub fn day_reached(c: Calendar, part: Part, x: Date, y: u64, n: i64) -> DayAnswer
+    requires { ⌜ YearOf c x y ⌝ }
+    ensures { λ r. ⌜ r ≡ dayAnswer c (dateAfter part c n x) ⌝ }
 {
-    12 * y + (month - 1) as u64
+    let k = signed::biased(n);
+    if k < 0x8000_0000_0000_0000 - 240000 {
+        return DayAnswer::Refused(Refusal::OutOfRange);
+    }
+    if 0x8000_0000_0000_0000 + 240000 <= k {
+        return DayAnswer::Refused(Refusal::OutOfRange);
+    }
+    let j = month_after(part, month_count(y, x.month), k);
+    if j < 2880000 + 12 * first_year(c) {
+        return DayAnswer::Refused(Refusal::OutOfRange);
+    }
+    if 2880000 + 240000 <= j {
+        return DayAnswer::Refused(Refusal::OutOfRange);
+    }
+    return DayAnswer::Is(day_in(c, j - 2880000, x.day));
 }
 
-// The date n months after x; refused as the day number of x is, then OutOfRange where its year lies past -9999 to 9999.
-pub fn months_after(c: Calendar, x: Date, n: i64) -> DateAnswer
-    ensures { λ r. ⌜ r ≡ monthsAnswer c n x ⌝ }
-{
-    match year_of(c, x) {
-        YearAnswer::Refused(r) => return DateAnswer::Refused(r),
-        YearAnswer::Is(y) => {
-            let k = signed::biased(n);
-            let o = 0x8000_0000_0000_0000 - month_count(y, x.month);
-            if k < o {
-                return DateAnswer::Refused(Refusal::OutOfRange);
-            }
-            let i = k - o;
-            return date_in(c, i / 12, (i % 12 + 1) as u32, x.day);
-        }
-    }
-}
-
-// The date n years after x; refused as the day number of x is, then OutOfRange where its year lies past -9999 to 9999.
-pub fn years_after(c: Calendar, x: Date, n: i64) -> DateAnswer
-    ensures { λ r. ⌜ r ≡ yearsAnswer c n x ⌝ }
-{
-    match year_of(c, x) {
-        YearAnswer::Refused(r) => return DateAnswer::Refused(r),
-        YearAnswer::Is(y) => {
-            let k = signed::biased(n);
-            let o = 0x8000_0000_0000_0000 - y;
-            if k < o {
-                return DateAnswer::Refused(Refusal::OutOfRange);
-            }
-            return date_in(c, k - o, x.month, x.day);
-        }
-    }
-}
+// ---- steps between dates
 
 // The number of steps from count a to count b.
 fn difference(b: u64, a: u64) -> i64
@@ -138,43 +147,23 @@ fn difference(b: u64, a: u64) -> i64
     signed::unbiased(b + (0x8000_0000_0000_0000 - a))
 }
 
-// The number of months from x to d: the n for which d lies n months after x, or that there is none; refused as the day number of x
-// is, then as that of d is.
-pub fn months_between(c: Calendar, x: Date, d: Date) -> StepAnswer
-    ensures { λ r. ⌜ r ≡ monthsBetween c x d ⌝ }
+// The n for which d, of year w, lies n steps after x, or that there is none.
+pub fn steps_between(c: Calendar, part: Part, x: Date, y: u64, d: Date, w: u64) -> StepAnswer
+    requires { ⌜ YearOf c x y × YearOf c d w ⌝ }
+    ensures { λ r. ⌜ r ≡ stepsBetween part c x d ⌝ }
 {
-    match year_of(c, x) {
-        YearAnswer::Refused(r) => return StepAnswer::Refused(r),
-        YearAnswer::Is(y) => match year_of(c, d) {
-            YearAnswer::Refused(r) => return StepAnswer::Refused(r),
-            YearAnswer::Is(z) => {
-                if day_down(c, z, d.month, x.day) != d.day {
-                    return StepAnswer::Nothing;
-                }
-                return StepAnswer::Is(difference(month_count(z, d.month), month_count(y, x.month)));
-            }
-        },
+    if day_down(c, w, d.month, x.day) != d.day {
+        return StepAnswer::Nothing;
     }
-}
-
-// The number of years from x to d: the n for which d lies n years after x, or that there is none; refused as the day number of x
-// is, then as that of d is.
-pub fn years_between(c: Calendar, x: Date, d: Date) -> StepAnswer
-    ensures { λ r. ⌜ r ≡ yearsBetween c x d ⌝ }
-{
-    match year_of(c, x) {
-        YearAnswer::Refused(r) => return StepAnswer::Refused(r),
-        YearAnswer::Is(y) => match year_of(c, d) {
-            YearAnswer::Refused(r) => return StepAnswer::Refused(r),
-            YearAnswer::Is(z) => {
-                if d.month != x.month {
-                    return StepAnswer::Nothing;
-                }
-                if day_down(c, z, x.month, x.day) != d.day {
-                    return StepAnswer::Nothing;
-                }
-                return StepAnswer::Is(difference(z, y));
+    match part {
+        Part::Month => {
+            return StepAnswer::Is(difference(month_count(w, d.month), month_count(y, x.month)));
+        }
+        Part::Year => {
+            if d.month != x.month {
+                return StepAnswer::Nothing;
             }
-        },
+            return StepAnswer::Is(difference(w, y));
+        }
     }
 }

@@ -4,7 +4,7 @@ use native.Mathlib.Omega.{arith}
 use borrow.Author.Needs.{needs}
 use Rattle.calendar.specs.Calendar.{hasYearZero}
 use Rattle.calendar.specs.Closed.{yearAt}
-use Rattle.step.specs.Months.{downTo}
+use Rattle.step.specs.Steps.{downTo}
 use Rattle.step.proofs.Days.{here, passing}
 use Rattle.step.proofs.day_down.Statement.{statement}
 use Rattle.step.proofs.day_down.Tie as tie

@@ -1,18 +1,26 @@
--- `step::reached::day_in` meets its contract.
+-- `step::day_in` meets its contract. Assumes nothing.
 use mathlib.Core.Path.{_≡_, ap, _∙_}
+use Prim.Native.Nat.{_+_, _/_, _%_}
 use native.Mathlib.Omega.{arith}
 use mir.Syntax.{w64}
 use mir.ValLaws.{toZ-ofZ}
 use Rattle.calendar.specs.Calendar.{hasYearZero, exists, date, dateOf}
 use Rattle.calendar.specs.Closed.{yearAt}
-use Rattle.step.specs.Months.{yearMonth, dateIn}
+use Rattle.step.specs.Closed.{monthAt}
+use Rattle.step.specs.Steps.{dateDown}
 use borrow.Author.Needs.{needs}
-use Rattle.step.proofs.reached.day_in.Statement.{statement}
-use Rattle.step.proofs.reached.day_in.Tie as tie
+use Rattle.step.proofs.day_in.Statement.{statement}
+use Rattle.step.proofs.day_in.Tie as tie
 
 -- the day that is found is the one of the definition
-found : (d : tie.After-day-down) → let a = d .before .args in let u = yearAt (hasYearZero (a .c)) (a .y) in date u (a .month) (d .day-down .result) ≡ dateIn (a .c) (yearMonth u (a .month)) (a .day)
-found d = let a = d .before .args in ap (date (yearAt (hasYearZero (a .c)) (a .y)) (a .month)) (d .day-down .ensures)
+found : (d : tie.After-day-down) → let a = d .before .args in date (yearAt (hasYearZero (a .c)) (a .i / 12)) (a .i % 12 + 1) (d .day-down .result) ≡ dateDown (a .c) (monthAt (a .c) (a .i)) (a .day)
+found d = let a = d .before .args in ap (date (yearAt (hasYearZero (a .c)) (a .i / 12)) (a .i % 12 + 1)) (d .day-down .ensures)
+
+add-month : tie.Need-add-month
+add-month c = search needs
+
+cast-month : tie.Need-cast-month
+cast-month c = search needs
 
 day-down-requires : tie.Need-day-down-requires
 day-down-requires c κs = search needs
@@ -28,4 +36,5 @@ returns c =
     ap (dateOf (c .before .before .args .c)) (toZ-ofZ w64 (k .result) (record { sfits = k .ok })) ∙ (k .ensures ∙ found (c .before))
 
 pub day-in-spec : {M : Type 1} → statement M
-day-in-spec = tie.close (tie.spec day-down-requires day-in-year-requires returns)
+day-in-spec =
+    tie.close (tie.spec add-month cast-month day-down-requires day-in-year-requires returns)

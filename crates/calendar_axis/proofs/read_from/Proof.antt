@@ -1,0 +1,71 @@
+-- `calendar_axis::read_from` meets its contract: the day that is reached, and the time of day.
+use mathlib.Core.Path.{_≡_, sym, ap, _∙_}
+use mathlib.Core.Bool.{true}
+use lib.IntN.{ℤ, pos, _+ℤ_, _*ℤ_}
+use mir.Syntax.{w64}
+use mir.ValLaws.{toZ-ofZ}
+use Rattle.calendar.specs.Calendar.{dateOf, inYears}
+use Rattle.calendar.specs.Answers.{dayAnswer}
+use Rattle.calendar.specs.declared.Date.{Date}
+use Rattle.calendar.specs.declared.DayAnswer.{DayAnswer}
+use Rattle.calendar.proofs.Theorems.{answered}
+use Rattle.step.specs.Steps.{dateAfter}
+use Rattle.axis_types.specs.declared.Reading.{Reading}
+use Rattle.calendar_axis.specs.Steps.{onDay}
+use borrow.Author.Needs.{needs}
+use Rattle.calendar_axis.proofs.read_from.Statement.{statement}
+use Rattle.calendar_axis.proofs.read_from.Tie as tie
+
+module _ (d : tie.After-day-reached) where
+  abbrev start : tie.Start
+  start = d .before .before
+
+  abbrev answer : DayAnswer
+  answer = dayAnswer (start .args .c) (dateAfter (start .args .part) (start .args .c) (start .args .n) (start .args .s .date))
+
+  answer-is : d .day-reached .result ≡ answer
+  answer-is = d .day-reached .ensures ∙ ap (λ (n : ℤ). dayAnswer (start .args .c) (dateAfter (start .args .part) (start .args .c) n (start .args .s .date))) (toZ-ofZ w64 (start .args .n) (start .fits .n))
+
+  -- with the time of day of the start
+  reading : (a : DayAnswer) → d .day-reached .result ≡ a → onDay a (start .args .s .time) ≡ onDay answer (start .args .s .time)
+  reading a e = ap (λ (u : DayAnswer). onDay u (start .args .s .time)) (sym e ∙ answer-is)
+
+day-reached-requires : tie.Need-day-reached-requires
+day-reached-requires c κs = search needs
+
+enum-known-r : tie.Need-enum-known-r
+enum-known-r c = search needs
+
+returns : tie.Need-returns
+returns c = reading (c .before .before .before) (DayAnswer.Refused (c .before .r .given .0 .0)) (c .before .r .given .1)
+
+enum-known-day : tie.Need-enum-known-day
+enum-known-day c = search needs
+
+instant-at-requires : tie.Need-instant-at-requires
+instant-at-requires c κs =
+    let d = c .before .before .before in
+    let z = c .before .day .given .0 .0 in
+    let f = toZ-ofZ w64 z (record { sfits = c .known-told2 .given .0 .1 }) in
+    let n = answered (start d .args .c) (dateAfter (start d .args .part) (start d .args .c) (start d .args .n) (start d .args .s .date)) z (sym (c .before .day .given .1) ∙ answer-is d) in
+    (ap (λ (w : ℤ). inYears (dateOf (start d .args .c) w .year)) f ∙ (ap (λ (x : Date). inYears (x .year)) (n .is) ∙ n .inside), start d .pre .1)
+
+returns-2 : tie.Need-returns-2
+returns-2 c =
+    let k = c .before in
+    let d = k .before .before .before in
+    let z = k .before .day .given .0 .0 in
+    let f = toZ-ofZ w64 z (record { sfits = k .known-told2 .given .0 .1 }) in
+    ap (λ (t : ℤ). Reading.At t true) (toZ-ofZ w64 (c .instant-at .result) (record { sfits = c .instant-at .ok }) ∙ (c .instant-at .ensures ∙ ap (λ (w : ℤ). w *ℤ pos 86400000000 +ℤ pos (start d .args .s .time)) f))
+    ∙ reading d (DayAnswer.Is z) (k .before .day .given .1)
+
+pub read-from-spec : {M : Type 1} → statement M
+read-from-spec =
+    tie.close
+    (tie.spec
+    day-reached-requires
+    enum-known-r
+    returns
+    enum-known-day
+    instant-at-requires
+    returns-2)

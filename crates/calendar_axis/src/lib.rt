@@ -1,0 +1,119 @@
+// Calendar mode for months and years: one offset read as an instant, and an instant written as a whole offset, from a reference in the
+// range. A run finds the start of its steps once and reads each offset from it. A reader may rely on specs/Steps.antt and on the
+// theorems of proofs/Demands.antt.
+ghost use mathlib.Core.Path.{_≡_};
+ghost use mathlib.Core.Bool.{true};
+ghost use Prim.Native.Nat.{_<_};
+ghost use lib.IntN.{pos, _+ℤ_, _*ℤ_};
+ghost use Rattle.calendar.specs.Calendar.{dateOf, inYears};
+ghost use Rattle.instant.specs.Instant.{dayLength, inRange};
+ghost use Rattle.step.specs.Closed.{YearOf};
+ghost use Rattle.axis_types.specs.Reading.{isRead};
+ghost use Rattle.axis_types.specs.declared.Reading.{Reading};
+ghost use Rattle.calendar_axis.specs.Steps.{readFrom, readSteps, writeSteps};
+ghost use Rattle.calendar_axis.specs.Start.{StartOf};
+use axis_types::OffsetAnswer;
+use axis_types::Reading;
+use calendar::Calendar;
+use calendar::Date;
+use calendar::DateAnswer;
+use calendar::DayAnswer;
+use refusal::Refusal;
+use step::Part;
+use step::StepAnswer;
+
+// The date of a reference, its year, counted from -10000, and the time of day.
+pub struct Start {
+    pub date: Date,
+    pub year: u64,
+    pub time: u64,
+}
+
+// The start of steps from a reference in the range.
+pub fn start_of(c: Calendar, reference: i64) -> Start
+    requires { ⌜ inRange c reference ≡ true ⌝ }
+    ensures { λ s. ⌜ StartOf c reference s ⌝ }
+{
+    // the reference counted from the beginning of day -106751992
+    let n = signed::biased(reference) + 71945224192;
+    match calendar::date_of_biased_day(c, n / 86400000000 + (0x8000_0000_0000_0000 - 106751992)) {
+        DateAnswer::Is(date) => {
+            return Start {
+                date,
+                year: step::year_of(c, date),
+                time: n % 86400000000,
+            };
+        }
+        // no reference in the range comes here
+        DateAnswer::Refused(_) => {
+            return Start {
+                date: Date {
+                    year: 0,
+                    month: 0,
+                    day: 0,
+                },
+                year: 0,
+                time: 0,
+            };
+        }
+    }
+}
+
+// The instant at a time of a day whose date lies in the years -9999 to 9999.
+fn instant_at(c: Calendar, day: i64, time: u64) -> i64
+    requires { ⌜ (inYears (dateOf c day .year) ≡ true) × (time < dayLength) ⌝ }
+    ensures { λ t. ⌜ t ≡ day *ℤ pos dayLength +ℤ pos time ⌝ }
+{
+    // the day counted from day -5000000
+    let k = signed::biased(day) - (0x8000_0000_0000_0000 - 5000000);
+    signed::unbiased(k * 86400000000 + time + (0x8000_0000_0000_0000 - 432000000000000000))
+}
+
+// A whole offset from a start; OutOfRange for the instant.
+pub fn read_from(c: Calendar, part: Part, s: Start, n: i64) -> Reading
+    requires { ⌜ YearOf c (s .date) (s .year) × (s .time < dayLength) ⌝ }
+    ensures { λ r. ⌜ r ≡ readFrom part c (s .date) (s .time) n ⌝ }
+{
+    let date = s.date;
+    match step::day_reached(c, part, date, s.year, n) {
+        DayAnswer::Refused(r) => return Reading::Refused(r),
+        DayAnswer::Is(day) => return Reading::At(instant_at(c, day, s.time), true),
+    }
+}
+
+// The instant of an offset that is known to be read.
+pub fn instant_after(c: Calendar, part: Part, s: Start, n: i64) -> i64
+    requires { ⌜ YearOf c (s .date) (s .year) × (s .time < dayLength) × (isRead (readFrom part c (s .date) (s .time) n) ≡ true) ⌝ }
+    ensures { λ t. ⌜ Reading.At t true ≡ readFrom part c (s .date) (s .time) n ⌝ }
+{
+    let date = s.date;
+    instant_at(c, step::day_after(c, part, date, s.year, n), s.time)
+}
+
+// A whole offset from a reference in the range; OutOfRange for the instant.
+pub fn read_whole(c: Calendar, part: Part, reference: i64, n: i64) -> Reading
+    requires { ⌜ inRange c reference ≡ true ⌝ }
+    ensures { λ r. ⌜ r ≡ readSteps part c reference n ⌝ }
+{
+    read_from(c, part, start_of(c, reference), n)
+}
+
+// The whole offset that reads as an instant, both in the range; Inexact where there is none.
+pub fn write_instant(c: Calendar, part: Part, reference: i64, t: i64) -> OffsetAnswer
+    requires { ⌜ (inRange c reference ≡ true) × (inRange c t ≡ true) ⌝ }
+    ensures { λ r. ⌜ r ≡ writeSteps part c reference t ⌝ }
+{
+    let s = start_of(c, reference);
+    let e = start_of(c, t);
+    let x = s.date;
+    let d = e.date;
+    match step::steps_between(c, part, x, s.year, d, e.year) {
+        StepAnswer::Nothing => return OffsetAnswer::Refused(Refusal::Inexact),
+        StepAnswer::Is(n) => {
+            if s.time != e.time {
+                return OffsetAnswer::Refused(Refusal::Inexact);
+            }
+            return OffsetAnswer::Is(n);
+        }
+    }
+}
