@@ -7,7 +7,7 @@ use Rattle.instant.specs.declared.InstantAnswer.{InstantAnswer}
 use Rattle.units_text.specs.declared.Units.{Units}
 use Rattle.units_text.specs.UnitsRule.{units}
 use Rattle.written_instant.specs.Instants.{writtenInstant}
-use Rattle.written_instant.specs.Texts.{readText}
+use Rattle.named_text.specs.Texts.{readText}
 use Rattle.axis_text.specs.declared.AxisAnswer.{AxisAnswer}
 
 -- the axis of units in a calendar, where their reference is an instant

@@ -1,10 +1,12 @@
-// An axis read from a calendar name and a units text (specs/Units.antt). The call is total.
+// An axis read from a calendar name and a units text (specs/Units.antt). `read_units` is total.
 ghost use mathlib.Core.Path.{_≡_};
-ghost use Rattle.axis_text.specs.Units.{readUnits};
+ghost use Rattle.axis_text.specs.Units.{axisOf, readUnits};
 use axis_types::Axis;
-use calendar_name::CalendarNamed;
+use calendar::Calendar;
 use instant::InstantAnswer;
+use named_text::TextCalendar;
 use refusal::Refusal;
+use units_text::Units;
 use units_text::UnitsAnswer;
 
 // The axis that was read.
@@ -13,19 +15,10 @@ pub enum AxisAnswer {
     Refused(Refusal),
 }
 
-// The axis of a units text in the calendar of a name.
-pub fn read_units(name: &[u8], text: &[u8]) -> AxisAnswer
-    ensures { λ r. ⌜ r ≡ readUnits (now (name .entry)) (now (text .entry)) ⌝ }
+// The axis of units in a calendar.
+fn axis_of(calendar: Calendar, u: Units) -> AxisAnswer
+    ensures { λ r. ⌜ r ≡ axisOf calendar u ⌝ }
 {
-    if 128 < text.len() {
-        return AxisAnswer::Refused(Refusal::TextTooLong);
-    }
-    let CalendarNamed::Is(calendar) = calendar_name::calendar_of(name) else {
-        return AxisAnswer::Refused(Refusal::UnknownCalendar);
-    };
-    let UnitsAnswer::Read(u) = units_text::read_units(text) else {
-        return AxisAnswer::Refused(Refusal::IllFormed);
-    };
     let period = u.period;
     let mode = u.mode;
     match written_instant::written_instant(calendar, u.reference) {
@@ -36,5 +29,20 @@ pub fn read_units(name: &[u8], text: &[u8]) -> AxisAnswer
             mode,
             reference,
         }),
+    }
+}
+
+// The axis of a units text in the calendar of a name.
+pub fn read_units(name: &[u8], text: &[u8]) -> AxisAnswer
+    ensures { λ r. ⌜ r ≡ readUnits (now (name .entry)) (now (text .entry)) ⌝ }
+{
+    match named_text::text_calendar(name, text) {
+        TextCalendar::Refused(r) => return AxisAnswer::Refused(r),
+        TextCalendar::Is(calendar) => {
+            let UnitsAnswer::Read(u) = units_text::read_units(text) else {
+                return AxisAnswer::Refused(Refusal::IllFormed);
+            };
+            return axis_of(calendar, u);
+        }
     }
 }

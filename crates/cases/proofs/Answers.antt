@@ -36,7 +36,7 @@ use Rattle.axis.proofs.Moving.{moved-in, moved-out}
 use Rattle.axis_types.specs.declared.Axis.{Axis}
 use Rattle.axis_text.specs.Units.{axisAt, axisOf, readUnits}
 use Rattle.axis_text.specs.declared.AxisAnswer.{AxisAnswer}
-use Rattle.date_text.specs.declared.Written.{Written}
+use Rattle.date_text.specs.declared.WrittenDate.{WrittenDate}
 use Rattle.date_text.specs.declared.Zone.{Zone}
 use Rattle.grammar.specs.Grammar.{within as withinClass, inside}
 use Rattle.grammar.specs.Reader.{read}
@@ -45,7 +45,8 @@ use Rattle.calendar_name.specs.Names.{calendarOf}
 use Rattle.units_text.specs.UnitsRule.{units}
 use Rattle.units_text.specs.declared.Units.{Units}
 use Rattle.written_instant.specs.Instants.{localFields, isZone, ahead, lessZone, writtenInstant}
-use Rattle.written_instant.specs.Texts.{tooLong, byName, readText}
+use Rattle.named_text.specs.declared.TextCalendar.{TextCalendar}
+use Rattle.named_text.specs.Texts.{textCalendar, inCalendar, readText}
 use Rattle.cases.specs.Cases.{Answer, textAnswer, readingAnswer, axisAnswer, Case, answerOf}
 use Rattle.cases.proofs.Known.{Known, itself, applied, through}
 use Rattle.cases.proofs.Days.{inYearsKnown, dateAnswerKnown, dayAnswerKnown}
@@ -75,7 +76,7 @@ module _ (c : Calendar) where
       applied (λ (b : Bool). cond (isZone z) (cond b (InstantAnswer.Is u) (InstantAnswer.Refused Refusal.OutOfRange)) (InstantAnswer.Refused Refusal.NoSuchDate)) (inRangeKnown c u)
   lessZoneKnown z (InstantAnswer.Refused r) = itself (InstantAnswer.Refused r)
 
-  unfoldable pub writtenInstantKnown : (w : Written) → Known (writtenInstant c w)
+  unfoldable pub writtenInstantKnown : (w : WrittenDate) → Known (writtenInstant c w)
   unfolding writtenInstant lessZoneKnown instantAnswerKnown
   writtenInstantKnown w = through (lessZone c (w .time .zone)) (lessZoneKnown (w .time .zone)) (instantAnswerKnown c (localFields w))
 
@@ -83,16 +84,15 @@ module _ (c : Calendar) where
   unfolding writtenInstantKnown
   axisOfKnown u = applied (axisAt c u) (writtenInstantKnown (u .reference))
 
-unfoldable pub byNameKnown : (c : Option Calendar) (u : Option Units) → Known (byName AxisAnswer.Refused axisOf c u)
+unfoldable pub inCalendarKnown : (k : TextCalendar) (u : Option Units) → Known (inCalendar AxisAnswer.Refused axisOf k u)
 unfolding axisOfKnown
-byNameKnown none u = itself (AxisAnswer.Refused Refusal.UnknownCalendar)
-byNameKnown (some c) none = itself (AxisAnswer.Refused Refusal.IllFormed)
-byNameKnown (some c) (some u) = axisOfKnown c u
+inCalendarKnown (TextCalendar.Refused r) u = itself (AxisAnswer.Refused r)
+inCalendarKnown (TextCalendar.Is c) none = itself (AxisAnswer.Refused Refusal.IllFormed)
+inCalendarKnown (TextCalendar.Is c) (some u) = axisOfKnown c u
 
 unfoldable pub readUnitsKnown : (name text : List ℕ) → Known (readUnits name text)
-unfolding readUnits readText byNameKnown calendarOf read withinClass inside
-readUnitsKnown name text =
-    applied (λ (a : AxisAnswer). cond (tooLong text) (AxisAnswer.Refused Refusal.TextTooLong) a) (byNameKnown (calendarOf name) (read units text))
+unfolding readUnits readText textCalendar inCalendarKnown calendarOf read withinClass inside
+readUnitsKnown name text = inCalendarKnown (textCalendar name text) (read units text)
 
 -- ---- the reading of an offset
 module _ (c : Calendar) where

@@ -53,26 +53,26 @@ unfoldable pub answerOf : Case → Answer
 answerOf k = axisAnswer (readUnits (k .calendar) (k .units)) (k .offset)
 
 -- a row with a whole offset, which is exact
-abbrev pub whole : String → String → ℕ → String → Case
-whole calendar units n answer = record { calendar = bytes calendar; units = bytes units; offset = Offset.Whole (pos n); expected = text (bytes answer) true }
+abbrev pub wholeCase : String → String → ℕ → String → Case
+wholeCase calendar units n answer = record { calendar = bytes calendar; units = bytes units; offset = Offset.Whole (pos n); expected = text (bytes answer) true }
 
 -- a row with a double that is rounded
-abbrev pub rounded : String → String → Float → String → Case
-rounded calendar units x answer = record { calendar = bytes calendar; units = bytes units; offset = Offset.Double x; expected = text (bytes answer) false }
+abbrev pub roundedCase : String → String → Float → String → Case
+roundedCase calendar units x answer = record { calendar = bytes calendar; units = bytes units; offset = Offset.Double x; expected = text (bytes answer) false }
 
 abbrev pub cases : List Case
 cases =
-    whole "standard" "days since 1582-10-04" 1 "1582-10-15T00:00:00.000000Z"
-    ∷ whole "proleptic_gregorian" "days since 1582-10-04" 1 "1582-10-05T00:00:00.000000Z"
-    ∷ whole "standard" "days since -1-12-31" 1 "0001-01-01T00:00:00.000000Z"
-    ∷ whole "julian" "days since 1900-02-28" 1 "1900-02-29T00:00:00.000000Z"
-    ∷ whole "360_day" "days since 2023-02-30" 1 "2023-03-01T00:00:00.000000Z"
-    ∷ whole "noleap" "days since 2000-02-28" 1 "2000-03-01T00:00:00.000000Z"
-    ∷ whole "standard" "months since 1930-01-01" 1 "1930-01-31T10:29:03.831225Z"
-    ∷ whole "standard" "years since 1850-01-01" 10 "1860-01-01T10:07:39.747000Z"
-    ∷ whole "standard" "calendar months since 1930-01-31" 1 "1930-02-28T00:00:00.000000Z"
-    ∷ whole "standard" "calendar months since 1582-09-10" 1 "1582-10-04T00:00:00.000000Z"
-    ∷ whole "standard" "hours since 1930-01-01 00:30 +01:00" 1 "1930-01-01T00:30:00.000000Z"
+    wholeCase "standard" "days since 1582-10-04" 1 "1582-10-15T00:00:00.000000Z"
+    ∷ wholeCase "proleptic_gregorian" "days since 1582-10-04" 1 "1582-10-05T00:00:00.000000Z"
+    ∷ wholeCase "standard" "days since -1-12-31" 1 "0001-01-01T00:00:00.000000Z"
+    ∷ wholeCase "julian" "days since 1900-02-28" 1 "1900-02-29T00:00:00.000000Z"
+    ∷ wholeCase "360_day" "days since 2023-02-30" 1 "2023-03-01T00:00:00.000000Z"
+    ∷ wholeCase "noleap" "days since 2000-02-28" 1 "2000-03-01T00:00:00.000000Z"
+    ∷ wholeCase "standard" "months since 1930-01-01" 1 "1930-01-31T10:29:03.831225Z"
+    ∷ wholeCase "standard" "years since 1850-01-01" 10 "1860-01-01T10:07:39.747000Z"
+    ∷ wholeCase "standard" "calendar months since 1930-01-31" 1 "1930-02-28T00:00:00.000000Z"
+    ∷ wholeCase "standard" "calendar months since 1582-09-10" 1 "1582-10-04T00:00:00.000000Z"
+    ∷ wholeCase "standard" "hours since 1930-01-01 00:30 +01:00" 1 "1930-01-01T00:30:00.000000Z"
     -- 3/128 s, written as 3 times 2 to the power of -7: 23437.5 microseconds, a tie
-    ∷ rounded "standard" "seconds since 1970-01-01" (fin false 3 (negsuc 6)) "1970-01-01T00:00:00.023438Z"
+    ∷ roundedCase "standard" "seconds since 1970-01-01" (fin false 3 (negsuc 6)) "1970-01-01T00:00:00.023438Z"
     ∷ []

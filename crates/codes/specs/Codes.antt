@@ -16,32 +16,32 @@ use Rattle.codes.specs.declared.UppinaloAxis.{UppinaloAxis}
 -- ---- what a code names
 
 -- 0 standard, 1 proleptic_gregorian, 2 julian, 3 noleap, 4 all_leap, 5 360_day, and no other
-abbrev pub calendarOf : ℕ → CodedCalendar
-calendarOf zero = CodedCalendar.Is Standard
-calendarOf (suc zero) = CodedCalendar.Is ProlepticGregorian
-calendarOf (suc (suc zero)) = CodedCalendar.Is Julian
-calendarOf (suc (suc (suc zero))) = CodedCalendar.Is NoLeap
-calendarOf (suc (suc (suc (suc zero)))) = CodedCalendar.Is AllLeap
-calendarOf (suc (suc (suc (suc (suc zero))))) = CodedCalendar.Is Day360
-calendarOf (suc (suc (suc (suc (suc (suc n)))))) = CodedCalendar.Unknown
+abbrev pub codedCalendar : ℕ → CodedCalendar
+codedCalendar zero = CodedCalendar.Is Standard
+codedCalendar (suc zero) = CodedCalendar.Is ProlepticGregorian
+codedCalendar (suc (suc zero)) = CodedCalendar.Is Julian
+codedCalendar (suc (suc (suc zero))) = CodedCalendar.Is NoLeap
+codedCalendar (suc (suc (suc (suc zero)))) = CodedCalendar.Is AllLeap
+codedCalendar (suc (suc (suc (suc (suc zero))))) = CodedCalendar.Is Day360
+codedCalendar (suc (suc (suc (suc (suc (suc n)))))) = CodedCalendar.Unknown
 
 -- 0 second, 1 millisecond, 2 minute, 3 hour, 4 day, 5 week, 6 month, 7 year, and no other
-abbrev pub periodOf : ℕ → CodedPeriod
-periodOf zero = CodedPeriod.Is Second
-periodOf (suc zero) = CodedPeriod.Is Millisecond
-periodOf (suc (suc zero)) = CodedPeriod.Is Minute
-periodOf (suc (suc (suc zero))) = CodedPeriod.Is Hour
-periodOf (suc (suc (suc (suc zero)))) = CodedPeriod.Is Day
-periodOf (suc (suc (suc (suc (suc zero))))) = CodedPeriod.Is Week
-periodOf (suc (suc (suc (suc (suc (suc zero)))))) = CodedPeriod.Is Month
-periodOf (suc (suc (suc (suc (suc (suc (suc zero))))))) = CodedPeriod.Is Year
-periodOf (suc (suc (suc (suc (suc (suc (suc (suc n)))))))) = CodedPeriod.Unknown
+abbrev pub codedPeriod : ℕ → CodedPeriod
+codedPeriod zero = CodedPeriod.Is Second
+codedPeriod (suc zero) = CodedPeriod.Is Millisecond
+codedPeriod (suc (suc zero)) = CodedPeriod.Is Minute
+codedPeriod (suc (suc (suc zero))) = CodedPeriod.Is Hour
+codedPeriod (suc (suc (suc (suc zero)))) = CodedPeriod.Is Day
+codedPeriod (suc (suc (suc (suc (suc zero))))) = CodedPeriod.Is Week
+codedPeriod (suc (suc (suc (suc (suc (suc zero)))))) = CodedPeriod.Is Month
+codedPeriod (suc (suc (suc (suc (suc (suc (suc zero))))))) = CodedPeriod.Is Year
+codedPeriod (suc (suc (suc (suc (suc (suc (suc (suc n)))))))) = CodedPeriod.Unknown
 
 -- 0 fixed, 1 calendar, and no other
-abbrev pub modeOf : ℕ → CodedMode
-modeOf zero = CodedMode.Is Mode.Fixed
-modeOf (suc zero) = CodedMode.Is Mode.Calendar
-modeOf (suc (suc n)) = CodedMode.Unknown
+abbrev pub codedMode : ℕ → CodedMode
+codedMode zero = CodedMode.Is Mode.Fixed
+codedMode (suc zero) = CodedMode.Is Mode.Calendar
+codedMode (suc (suc n)) = CodedMode.Unknown
 
 -- an axis, where its three codes name something: else the calendar is unknown, or the period or the mode ill-formed
 abbrev pub axisWith : CodedCalendar → CodedPeriod → CodedMode → UppinaloAxis → CodedAxis
@@ -50,8 +50,8 @@ axisWith (CodedCalendar.Is c) CodedPeriod.Unknown m a = CodedAxis.Refused IllFor
 axisWith (CodedCalendar.Is c) (CodedPeriod.Is p) CodedMode.Unknown a = CodedAxis.Refused IllFormed
 axisWith (CodedCalendar.Is c) (CodedPeriod.Is p) (CodedMode.Is m) a = CodedAxis.Is (record { calendar = c; period = p; mode = m; reference = a .reference })
 
-unfoldable pub axisOf : UppinaloAxis → CodedAxis
-axisOf a = axisWith (calendarOf (a .calendar)) (periodOf (a .period)) (modeOf (a .mode)) a
+unfoldable pub codedAxis : UppinaloAxis → CodedAxis
+codedAxis a = axisWith (codedCalendar (a .calendar)) (codedPeriod (a .period)) (codedMode (a .mode)) a
 
 -- ---- the code of a name
 

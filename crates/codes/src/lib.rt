@@ -1,6 +1,6 @@
 // The numbers by which calendars, periods and modes cross the C boundary.
 ghost use mathlib.Core.Path.{_≡_};
-ghost use Rattle.codes.specs.Codes.{calendarOf, periodOf, modeOf, axisOf, calendarCode, periodCode, modeCode, axisCode};
+ghost use Rattle.codes.specs.Codes.{codedCalendar, codedPeriod, codedMode, codedAxis, calendarCode, periodCode, modeCode, axisCode};
 use axis_types::Axis;
 use axis_types::Mode;
 use axis_types::Period;
@@ -36,7 +36,7 @@ pub enum CodedAxis {
 }
 
 pub fn calendar_of(code: u32) -> CodedCalendar
-    ensures { λ r. ⌜ r ≡ calendarOf code ⌝ }
+    ensures { λ r. ⌜ r ≡ codedCalendar code ⌝ }
 {
     if code == 0 {
         return CodedCalendar::Is(Calendar::Standard);
@@ -60,7 +60,7 @@ pub fn calendar_of(code: u32) -> CodedCalendar
 }
 
 fn period_of(code: u32) -> CodedPeriod
-    ensures { λ r. ⌜ r ≡ periodOf code ⌝ }
+    ensures { λ r. ⌜ r ≡ codedPeriod code ⌝ }
 {
     if code == 0 {
         return CodedPeriod::Is(Period::Second);
@@ -90,7 +90,7 @@ fn period_of(code: u32) -> CodedPeriod
 }
 
 fn mode_of(code: u32) -> CodedMode
-    ensures { λ r. ⌜ r ≡ modeOf code ⌝ }
+    ensures { λ r. ⌜ r ≡ codedMode code ⌝ }
 {
     if code == 0 {
         return CodedMode::Is(Mode::Fixed);
@@ -103,7 +103,7 @@ fn mode_of(code: u32) -> CodedMode
 
 // The axis that the codes name; UnknownCalendar, then IllFormed for the period or the mode.
 pub fn axis_of(a: UppinaloAxis) -> CodedAxis
-    ensures { λ r. ⌜ r ≡ axisOf a ⌝ }
+    ensures { λ r. ⌜ r ≡ codedAxis a ⌝ }
 {
     let CodedCalendar::Is(calendar) = calendar_of(a.calendar) else {
         return CodedAxis::Refused(Refusal::UnknownCalendar);

@@ -9,14 +9,14 @@ use lib.Dec.{eqb}
 use lib.ListN.{length, getD, drop}
 use borrow.Author.Tests.{le-leb, lt-leb}
 use Rattle.grammar.specs.Grammar.{Class, starts, one, _▸_, _or_, maybe, give}
-use Rattle.grammar.specs.Reader.{Scanned, found, nothing, front, back, paired, given, nullable, first, scan}
+use Rattle.grammar.specs.Reader.{Scan, found, nothing, front, back, paired, given, nullable, first, scan}
 use Rattle.grammar.specs.Rules.{_⇒_, span, anyOf, digit, decimal, number, two, either}
 use Rattle.grammar.proofs.Tests.{or-left, or-right}
 use Rattle.grammar.proofs.Classes.{starts-append}
 use Rattle.grammar.proofs.Steps.{absent, present, or-first, or-second, give-of, one-at, one-no, skip-yes, skip-no, part-absent, part-present, run-all}
 use Rattle.date_text.specs.declared.Zone.{Zone}
 use Rattle.date_text.specs.declared.Time.{Time}
-use Rattle.date_text.specs.DateRule.{sign, utc, zoneMinutes, zoneOf, zoneOffset, utcName, zoneName, zone, fraction, minutePart, zonePart, timeOf, midnight, timePart, monthPart, writtenOf, date}
+use Rattle.date_text.specs.DateRule.{sign, utc, zoneMinutes, zoneOf, zoneOffset, utcName, zoneName, zone, fraction, minutePart, zonePart, timeParts, midnight, timePart, monthPart, dateParts, dateRule}
 
 abbrev signs : Class
 signs = anyOf (43 ∷ 45 ∷ [])
@@ -63,7 +63,7 @@ module _ (s : List ℕ) (at : ℕ) (t : starts signs (drop at s) ≡ true) where
   unfolding scan
   offset-no e = rw (sign-at s at t, e)
 
-  pub offset-is : (h : ℕ) (y : List ℕ) (o : Scanned ℕ) → scan two (drop (at + 1) s) ≡ found h y → scan zoneMinutes y ≡ o → scan zoneOffset (drop at s) ≡ given zoneOf (paired (eqb (getD s at 0) 45) (paired h o))
+  pub offset-is : (h : ℕ) (y : List ℕ) (o : Scan ℕ) → scan two (drop (at + 1) s) ≡ found h y → scan zoneMinutes y ≡ o → scan zoneOffset (drop at s) ≡ given zoneOf (paired (eqb (getD s at 0) 45) (paired h o))
   unfolding scan
   offset-is h y o e f = rw (sign-at s at t, e, f)
 
@@ -114,11 +114,11 @@ abbrev timeFirst : Class
 timeFirst = anyOf (84 ∷ 32 ∷ [])
 
 pub time-none : (x : List ℕ) → starts timeFirst x ≡ false → scan timePart x ≡ found midnight x
-time-none x e = part-absent midnight timeFirst (give timeOf (number 2 ▸ minutePart ▸ zonePart)) x e
+time-none x e = part-absent midnight timeFirst (give timeParts (number 2 ▸ minutePart ▸ zonePart)) x e
 
 module _ (s : List ℕ) (at : ℕ) (t : starts timeFirst (drop at s) ≡ true) where
-  clock : scan timePart (drop at s) ≡ scan (give timeOf (number 2 ▸ minutePart ▸ zonePart)) (drop (at + 1) s)
-  clock = part-present midnight timeFirst (give timeOf (number 2 ▸ minutePart ▸ zonePart)) s at t
+  clock : scan timePart (drop at s) ≡ scan (give timeParts (number 2 ▸ minutePart ▸ zonePart)) (drop (at + 1) s)
+  clock = part-present midnight timeFirst (give timeParts (number 2 ▸ minutePart ▸ zonePart)) s at t
 
   pub time-no : scan (number 2) (drop (at + 1) s) ≡ nothing → scan timePart (drop at s) ≡ nothing
   unfolding scan
@@ -128,28 +128,28 @@ module _ (s : List ℕ) (at : ℕ) (t : starts timeFirst (drop at s) ≡ true) w
   unfolding scan
   time-half h y e f = clock ∙ rw (e, f)
 
-  pub time-is : (h : ℕ) (y : List ℕ) (m : ℕ × (ℕ × ℕ)) (z : List ℕ) (o : Scanned Zone) → scan (number 2) (drop (at + 1) s) ≡ found h y → scan minutePart y ≡ found m z → scan zonePart z ≡ o → scan timePart (drop at s) ≡ given timeOf (paired h (paired m o))
+  pub time-is : (h : ℕ) (y : List ℕ) (m : ℕ × (ℕ × ℕ)) (z : List ℕ) (o : Scan Zone) → scan (number 2) (drop (at + 1) s) ≡ found h y → scan minutePart y ≡ found m z → scan zonePart z ≡ o → scan timePart (drop at s) ≡ given timeParts (paired h (paired m o))
   unfolding scan
   time-is h y m z o e f g = clock ∙ rw (e, f, g)
 
 -- ---- dates
 
-pub year-no : (b : Bool) (x : List ℕ) → scan (number 4) x ≡ nothing → given writtenOf (paired b (scan (number 4 ▸ monthPart) x)) ≡ nothing
+pub year-no : (b : Bool) (x : List ℕ) → scan (number 4) x ≡ nothing → given dateParts (paired b (scan (number 4 ▸ monthPart) x)) ≡ nothing
 unfolding scan
 year-no b x e = rw e
 
-pub year-is : (b : Bool) (x y : List ℕ) (n : ℕ) (o : Scanned (ℕ × (ℕ × Time))) → scan (number 4) x ≡ found n y → scan monthPart y ≡ o → given writtenOf (paired b (scan (number 4 ▸ monthPart) x)) ≡ given writtenOf (paired b (paired n o))
+pub year-is : (b : Bool) (x y : List ℕ) (n : ℕ) (o : Scan (ℕ × (ℕ × Time))) → scan (number 4) x ≡ found n y → scan monthPart y ≡ o → given dateParts (paired b (scan (number 4 ▸ monthPart) x)) ≡ given dateParts (paired b (paired n o))
 unfolding scan
 year-is b x y n o e f = rw (e, f)
 
-date-from : (x y : List ℕ) (b : Bool) → scan (maybe false sign) x ≡ found b y → scan date x ≡ given writtenOf (paired b (scan (number 4 ▸ monthPart) y))
+date-from : (x y : List ℕ) (b : Bool) → scan (maybe false sign) x ≡ found b y → scan dateRule x ≡ given dateParts (paired b (scan (number 4 ▸ monthPart) y))
 unfolding scan
 date-from x y b e = rw e
 
-pub date-signed : (s : List ℕ) (at : ℕ) → starts signs (drop at s) ≡ true → scan date (drop at s) ≡ given writtenOf (paired (eqb (getD s at 0) 45) (scan (number 4 ▸ monthPart) (drop (at + 1) s)))
+pub date-signed : (s : List ℕ) (at : ℕ) → starts signs (drop at s) ≡ true → scan dateRule (drop at s) ≡ given dateParts (paired (eqb (getD s at 0) 45) (scan (number 4 ▸ monthPart) (drop (at + 1) s)))
 unfolding first
 date-signed s at e = date-from (drop at s) (drop (at + 1) s) (eqb (getD s at 0) 45) (present false sign (drop at s) e ∙ sign-at s at e)
 
-pub date-plain : (x : List ℕ) → starts signs x ≡ false → scan date x ≡ given writtenOf (paired false (scan (number 4 ▸ monthPart) x))
+pub date-plain : (x : List ℕ) → starts signs x ≡ false → scan dateRule x ≡ given dateParts (paired false (scan (number 4 ▸ monthPart) x))
 unfolding first
 date-plain x e = date-from x x false (absent false sign x e)

@@ -11,7 +11,7 @@ use Rattle.grammar.specs.Grammar.{Grammar, one, run, _▸_, _or_, give}
 use Rattle.grammar.specs.Rules.{_⇒_, bytes, anyOf, char, optional, digit, decimal, number, two, spelled}
 use Rattle.date_text.specs.declared.Zone.{Zone}
 use Rattle.date_text.specs.declared.Time.{Time}
-use Rattle.date_text.specs.declared.Written.{Written}
+use Rattle.date_text.specs.declared.WrittenDate.{WrittenDate}
 
 -- a plus or a minus, and whether it is a minus
 abbrev pub sign : Grammar Bool
@@ -59,11 +59,11 @@ minutePart = optional (0, (0, 0)) (char ":" ⇒ number 2 ▸ secondPart)
 abbrev pub zonePart : Grammar Zone
 zonePart = optional utc zone
 
-abbrev pub timeOf : ℕ × ((ℕ × (ℕ × ℕ)) × Zone) → Time
-timeOf v = record { hour = v .0; minute = v .1 .0 .0; second = v .1 .0 .1 .0; microsecond = v .1 .0 .1 .1; zone = v .1 .1 }
+abbrev pub timeParts : ℕ × ((ℕ × (ℕ × ℕ)) × Zone) → Time
+timeParts v = record { hour = v .0; minute = v .1 .0 .0; second = v .1 .0 .1 .0; microsecond = v .1 .0 .1 .1; zone = v .1 .1 }
 
 abbrev pub time : Grammar Time
-time = one (anyOf (bytes "T ")) ⇒ give timeOf (number 2 ▸ minutePart ▸ zonePart)
+time = one (anyOf (bytes "T ")) ⇒ give timeParts (number 2 ▸ minutePart ▸ zonePart)
 
 -- ---- a date: a sign or none, a year of 1 to 4 digits, month, day and time, each only after the one before
 
@@ -79,8 +79,8 @@ dayPart = optional (1, midnight) (char "-" ⇒ number 2 ▸ timePart)
 abbrev pub monthPart : Grammar (ℕ × (ℕ × Time))
 monthPart = optional (1, (1, midnight)) (char "-" ⇒ number 2 ▸ dayPart)
 
-abbrev pub writtenOf : Bool × (ℕ × (ℕ × (ℕ × Time))) → Written
-writtenOf v = record { negative = v .0; year = v .1 .0; month = v .1 .1 .0; day = v .1 .1 .1 .0; time = v .1 .1 .1 .1 }
+abbrev pub dateParts : Bool × (ℕ × (ℕ × (ℕ × Time))) → WrittenDate
+dateParts v = record { negative = v .0; year = v .1 .0; month = v .1 .1 .0; day = v .1 .1 .1 .0; time = v .1 .1 .1 .1 }
 
-abbrev pub date : Grammar Written
-date = give writtenOf (optional false sign ▸ number 4 ▸ monthPart)
+abbrev pub dateRule : Grammar WrittenDate
+dateRule = give dateParts (optional false sign ▸ number 4 ▸ monthPart)

@@ -9,7 +9,7 @@ ghost use Rattle.grammar.specs.Grammar.{every, _or_, _▸_};
 ghost use Rattle.grammar.specs.Reader.{scan, read, given, paired};
 ghost use Rattle.grammar.specs.Rules.{span, number};
 ghost use Rattle.grammar.specs.Answers.{numberIn};
-ghost use Rattle.date_text.specs.DateRule.{fraction, fractionPart, secondPart, minutePart, zoneMinutes, utcName, zoneName, zoneOffset, zone, zonePart, timePart, midnight, dayPart, monthPart, writtenOf, date};
+ghost use Rattle.date_text.specs.DateRule.{fraction, fractionPart, secondPart, minutePart, zoneMinutes, utcName, zoneName, zoneOffset, zone, zonePart, timePart, midnight, dayPart, monthPart, dateParts, dateRule};
 ghost use Rattle.date_text.specs.Answers.{zoneIn, secondIn, minuteIn, timeIn, dayIn, monthIn, writtenIn, writtenAnswer};
 use grammar::EndAt;
 use grammar::NumberAt;
@@ -39,7 +39,7 @@ pub struct Time {
 }
 
 // A date as it is written: local, and none of its fields tested.
-pub struct Written {
+pub struct WrittenDate {
     pub negative: bool,
     pub year: u32,
     pub month: u32,
@@ -79,13 +79,13 @@ pub enum MonthAt {
 }
 
 pub enum WrittenAt {
-    Found(Written, usize),
+    Found(WrittenDate, usize),
     Nothing,
 }
 
 // The answer to a whole text.
 pub enum WrittenAnswer {
-    Read(Written),
+    Read(WrittenDate),
     Refused,
 }
 
@@ -332,7 +332,7 @@ fn month_part(s: &[u8], at: usize) -> MonthAt
 
 // A date after its sign.
 fn year_at(s: &[u8], at: usize, negative: bool) -> WrittenAt
-    ensures { λ r. ⌜ given writtenOf (paired negative (scan (number 4 ▸ monthPart) (drop at (now (s .entry))))) ≡ writtenIn (now (s .entry)) r ⌝ }
+    ensures { λ r. ⌜ given dateParts (paired negative (scan (number 4 ▸ monthPart) (drop at (now (s .entry))))) ≡ writtenIn (now (s .entry)) r ⌝ }
 {
     let NumberAt::Found(year, b) = number_at(s, at, 4) else {
         return WrittenAt::Nothing;
@@ -341,7 +341,7 @@ fn year_at(s: &[u8], at: usize, negative: bool) -> WrittenAt
         return WrittenAt::Nothing;
     };
     WrittenAt::Found(
-        Written {
+        WrittenDate {
             negative,
             year,
             month,
@@ -354,7 +354,7 @@ fn year_at(s: &[u8], at: usize, negative: bool) -> WrittenAt
 
 // A date at a place of a text.
 pub fn date_at(s: &[u8], at: usize) -> WrittenAt
-    ensures { λ r. ⌜ scan date (drop at (now (s .entry))) ≡ writtenIn (now (s .entry)) r ⌝ }
+    ensures { λ r. ⌜ scan dateRule (drop at (now (s .entry))) ≡ writtenIn (now (s .entry)) r ⌝ }
 {
     if starts_in(s, at, b"+-") {
         let negative = s[at] == 45;
@@ -365,7 +365,7 @@ pub fn date_at(s: &[u8], at: usize) -> WrittenAt
 
 // A whole text that is a date.
 pub fn read_date(s: &[u8]) -> WrittenAnswer
-    ensures { λ r. ⌜ r ≡ writtenAnswer (read date (now (s .entry))) ⌝ }
+    ensures { λ r. ⌜ r ≡ writtenAnswer (read dateRule (now (s .entry))) ⌝ }
 {
     let WrittenAt::Found(w, e) = date_at(s, 0) else {
         return WrittenAnswer::Refused;

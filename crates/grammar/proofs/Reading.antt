@@ -7,7 +7,7 @@ use mathlib.Core.List.{List, [], _∷_, _++_, append-assoc, append-nil}
 use mathlib.Core.Option.{Option, none, some}
 use mathlib.Core.Logic.{inl, inr}
 use Rattle.grammar.specs.Grammar.{within, every, starts, Grammar, empty, one, run, _▸_, _or_, maybe, give, Derives}
-use Rattle.grammar.specs.Reader.{Scanned, found, nothing, front, back, valued, then, paired, given, nullable, first, scan, whole, read}
+use Rattle.grammar.specs.Reader.{Scan, found, nothing, front, back, valued, then, paired, given, nullable, first, scan, whole, read}
 use Rattle.grammar.specs.Clear.{extends, apart, clear}
 use Rattle.grammar.proofs.Tests.{clash, none-some, nothing-found, nil-cons, and-parts, or-left, or-right, not-so, so-not}
 use Rattle.grammar.proofs.Classes.{within-append, starts-neither, apart-never, front-run, back-run, front-back, front-every}
@@ -136,7 +136,7 @@ sound (run {A = A} h c val) s v r e = go (starts h (front c s)) refl (val (front
     go false a o w x = nothing-found x
 sound (_▸_ {A = A} {B = B} g h) s v r e = go (scan g s) refl e (λ a t w. sound g s a t w) (λ t b u w. sound h t b u w)
   where
-    go2 : (a : A) (p t : List ℕ) → s ≡ p ++ t → Derives g p a → (o : Scanned B) → scan h t ≡ o → paired a o ≡ found v r → ((t : List ℕ) (b : B) (r : List ℕ) → scan h t ≡ found b r → Front h t b r) → Front (g ▸ h) s v r
+    go2 : (a : A) (p t : List ℕ) → s ≡ p ++ t → Derives g p a → (o : Scan B) → scan h t ≡ o → paired a o ≡ found v r → ((t : List ℕ) (b : B) (r : List ℕ) → scan h t ≡ found b r → Front h t b r) → Front (g ▸ h) s v r
     go2 a p t f d nothing w x k = nothing-found x
     go2 a p t f d (found b u) w x k =
         let m = k t b u w in
@@ -145,7 +145,7 @@ sound (_▸_ {A = A} {B = B} g h) s v r e = go (scan g s) refl e (λ a t w. soun
         let i : u ≡ r = cc in
         (p ++ m .0, (rw (append-assoc, ← i) (f ∙ ap (_++_ p) (m .1))), (p, m .0, refl, rw y at d, subst (λ (x : B). Derives h (m .0) x) z (m .2)))
 
-    go : (o : Scanned A) → scan g s ≡ o → then o (λ a t. paired a (scan h t)) ≡ found v r → ((a : A) (t : List ℕ) → scan g s ≡ found a t → Front g s a t) → ((t : List ℕ) (b : B) (r : List ℕ) → scan h t ≡ found b r → Front h t b r) → Front (g ▸ h) s v r
+    go : (o : Scan A) → scan g s ≡ o → then o (λ a t. paired a (scan h t)) ≡ found v r → ((a : A) (t : List ℕ) → scan g s ≡ found a t → Front g s a t) → ((t : List ℕ) (b : B) (r : List ℕ) → scan h t ≡ found b r → Front h t b r) → Front (g ▸ h) s v r
     go nothing w x j k = nothing-found x
     go (found a t) w x j k = let m = j a t w in go2 a (m .0) t (m .1) (m .2) (scan h t) refl x k
 sound (g or h) s v r e = go (starts (first g) s) e (λ w. sound g s v r w) (λ w. sound h s v r w)
@@ -160,7 +160,7 @@ sound (maybe d g) s v r e = go (starts (first g) s) e (λ w. sound g s v r w)
     go false x j = let y : d ≡ v = cc in let z : s ≡ r = cc in ([], z, inl (refl, sym y))
 sound (give {A = A} f g) s v r e = go (scan g s) refl e (λ a t w. sound g s a t w)
   where
-    go : (o : Scanned A) → scan g s ≡ o → given f o ≡ found v r → ((a : A) (t : List ℕ) → scan g s ≡ found a t → Front g s a t) → Front (give f g) s v r
+    go : (o : Scan A) → scan g s ≡ o → given f o ≡ found v r → ((a : A) (t : List ℕ) → scan g s ≡ found a t → Front g s a t) → Front (give f g) s v r
     go nothing w x j = nothing-found x
     go (found a t) w x j =
         let z : t ≡ r = cc in
@@ -179,7 +179,7 @@ pub derives : {A : Type 0} (g : Grammar A) (s : List ℕ) (v : A) → read g s �
 unfolding read whole
 derives {A} g s v e = go (scan g s) refl e
   where
-    go : (o : Scanned A) → scan g s ≡ o → whole o ≡ some v → Derives g s v
+    go : (o : Scan A) → scan g s ≡ o → whole o ≡ some v → Derives g s v
     go nothing w x = none-some x
     go (found u []) w x = let y : u ≡ v = cc in let m = sound g s u [] w in subst (λ (z : A). Derives g s z) y (rw (m .1, append-nil) (m .2))
     go (found u (b ∷ r)) w x = none-some x

@@ -11,7 +11,7 @@ use lib.ListN.{length, getD, drop, drop-of-length-le}
 use lib.Seq.{drop-cons}
 use borrow.Author.Tests.{le-leb, lt-leb}
 use Rattle.grammar.specs.Grammar.{Class, starts, Grammar, one, run, _▸_, _or_, maybe, give}
-use Rattle.grammar.specs.Reader.{Scanned, found, nothing, front, back, valued, paired, given, nullable, first, scan, whole, read}
+use Rattle.grammar.specs.Reader.{Scan, found, nothing, front, back, valued, paired, given, nullable, first, scan, whole, read}
 use Rattle.grammar.specs.Rules.{_⇒_, span, digit, decimal, number, two, either, spelled}
 use Rattle.grammar.proofs.Tests.{or-left}
 use Rattle.grammar.proofs.Classes.{starts-append, starts-every, front-every}
@@ -35,7 +35,7 @@ pub or-second : {A : Type 0} (g h : Grammar A) (x : List ℕ) → starts (first 
 unfolding scan
 or-second g h x e = rw e
 
-pub give-of : {A B : Type 0} (f : A → B) (g : Grammar A) (x : List ℕ) (o : Scanned A) → scan g x ≡ o → scan (give f g) x ≡ given f o
+pub give-of : {A B : Type 0} (f : A → B) (g : Grammar A) (x : List ℕ) (o : Scan A) → scan g x ≡ o → scan (give f g) x ≡ given f o
 unfolding scan
 give-of f g x o e = rw e
 
@@ -53,7 +53,7 @@ pub past : {A B : Type 0} (g : Grammar A) (h : Grammar B) (x y : List ℕ) (a : 
 unfolding scan
 past {A} {B} g h x y a e = rw e (go (scan h y))
   where
-    go : (o : Scanned B) → given (λ (v : A × B). v .1) (paired a o) ≡ o
+    go : (o : Scan B) → given (λ (v : A × B). v .1) (paired a o) ≡ o
     go nothing = refl
     go (found b r) = refl
 
@@ -100,7 +100,7 @@ module _ {A B : Type 0} (d : A × B) (c : Class) (g : Grammar A) (h : Grammar B)
   pub part-no : scan g (drop (at + 1) s) ≡ nothing → scan (maybe d (one c ⇒ g ▸ h)) (drop at s) ≡ nothing
   part-no e = part-present d c (g ▸ h) s at t ∙ seq-no g h (drop (at + 1) s) e
 
-  pub part-is : (a : A) (y : List ℕ) (o : Scanned B) → scan g (drop (at + 1) s) ≡ found a y → scan h y ≡ o → scan (maybe d (one c ⇒ g ▸ h)) (drop at s) ≡ paired a o
+  pub part-is : (a : A) (y : List ℕ) (o : Scan B) → scan g (drop (at + 1) s) ≡ found a y → scan h y ≡ o → scan (maybe d (one c ⇒ g ▸ h)) (drop at s) ≡ paired a o
   part-is a y o e f = part-present d c (g ▸ h) s at t ∙ seq g h (drop (at + 1) s) y a e ∙ ap (paired a) f
 
 -- ---- runs

@@ -8,9 +8,9 @@ use mathlib.Core.Option.{Option, none, some}
 use Rattle.grammar.specs.Grammar.{Class, within, starts, Grammar, empty, one, run, _▸_, _or_, maybe, give}
 
 -- what reading at the front of a text finds: a value and what is left of the text, or nothing
-pub data Scanned (A : Type 0) : Type 0 where
-  found : A → List ℕ → Scanned A
-  nothing : Scanned A
+pub data Scan (A : Type 0) : Type 0 where
+  found : A → List ℕ → Scan A
+  nothing : Scan A
 
 -- the longest front of a text in a class, and what is left
 unfoldable pub front : Class → List ℕ → List ℕ
@@ -22,19 +22,19 @@ back c [] = []
 back c (b ∷ s) = cond (within c b) (back c s) (b ∷ s)
 
 -- a value that there may be, with what is left
-abbrev pub valued : {A : Type 0} → Option A → List ℕ → Scanned A
+abbrev pub valued : {A : Type 0} → Option A → List ℕ → Scan A
 valued none r = nothing
 valued (some v) r = found v r
 
-abbrev pub then : {A B : Type 0} → Scanned A → (A → List ℕ → Scanned B) → Scanned B
+abbrev pub then : {A B : Type 0} → Scan A → (A → List ℕ → Scan B) → Scan B
 then nothing k = nothing
 then (found a r) k = k a r
 
-abbrev pub paired : {A B : Type 0} → A → Scanned B → Scanned (A × B)
+abbrev pub paired : {A B : Type 0} → A → Scan B → Scan (A × B)
 paired a nothing = nothing
 paired a (found b r) = found (a, b) r
 
-abbrev pub given : {A B : Type 0} → (A → B) → Scanned A → Scanned B
+abbrev pub given : {A B : Type 0} → (A → B) → Scan A → Scan B
 given f nothing = nothing
 given f (found a r) = found (f a) r
 
@@ -60,7 +60,7 @@ first (maybe d g) = first g
 first (give f g) = first g
 
 -- what the reader finds at the front of a text
-unfoldable pub scan : {A : Type 0} → Grammar A → List ℕ → Scanned A
+unfoldable pub scan : {A : Type 0} → Grammar A → List ℕ → Scan A
 unfolding first starts front back
 scan empty s = found tt s
 scan (one c) [] = nothing
@@ -72,7 +72,7 @@ scan (maybe d g) s = cond (starts (first g) s) (scan g s) (found d s)
 scan (give f g) s = given f (scan g s)
 
 -- the value of a whole text: nothing may be left of it
-unfoldable pub whole : {A : Type 0} → Scanned A → Option A
+unfoldable pub whole : {A : Type 0} → Scan A → Option A
 whole nothing = none
 whole (found v []) = some v
 whole (found v (b ∷ r)) = none

@@ -7,15 +7,15 @@ use mathlib.Core.Logic.{inl, inr}
 use mathlib.Core.Option.{some}
 use Rattle.grammar.specs.Grammar.{inside, within, Derives}
 use Rattle.grammar.specs.Reader.{read}
-use Rattle.date_text.specs.declared.Written.{Written}
+use Rattle.date_text.specs.declared.WrittenDate.{WrittenDate}
 use Rattle.date_text.specs.declared.Zone.{Zone}
-use Rattle.date_text.specs.DateRule.{utc, secondPart, minutePart, zonePart, timePart, dayPart, monthPart, date}
+use Rattle.date_text.specs.DateRule.{utc, secondPart, minutePart, zonePart, timePart, dayPart, monthPart, dateRule}
 use Rattle.date_text.proofs.Texts.{date-read}
-use Rattle.iso_form.specs.Form.{two, four, six, isoText}
+use Rattle.iso_form.specs.Form.{twoDigits, fourDigits, sixDigits, isoText}
 use Rattle.iso_form.proofs.Digits.{two-written, four-written, six-written}
 
 -- a date in UTC whose fields have no more digits than the form has places
-pub record Formed (w : Written) : Type 0 where
+pub record Formed (w : WrittenDate) : Type 0 where
   pub year : w .year ≤ 9999
   pub month : w .month ≤ 99
   pub day : w .day ≤ 99
@@ -30,9 +30,9 @@ zone-written : (z : Zone) → z ≡ utc → Derives zonePart (90 ∷ []) z
 unfolding Derives within inside
 zone-written z e = inr ((0, z), ([], 90 ∷ [], refl, inl (refl, refl), inr (inl (tt, ((90, tt), (90 ∷ [], [], refl, (refl, refl), refl), refl), e))), refl)
 
-module _ (w : Written) (f : Formed w) where
+module _ (w : WrittenDate) (f : Formed w) where
   seconds : List ℕ
-  seconds = 58 ∷ two (w .time .second) ++ 46 ∷ six (w .time .microsecond)
+  seconds = 58 ∷ twoDigits (w .time .second) ++ 46 ∷ sixDigits (w .time .microsecond)
 
   second-written : Derives secondPart seconds (w .time .second, w .time .microsecond)
   unfolding Derives within inside seconds
@@ -41,22 +41,22 @@ module _ (w : Written) (f : Formed w) where
         (58, (w .time .second, w .time .microsecond)),
         (
           58 ∷ [],
-          two (w .time .second) ++ 46 ∷ six (w .time .microsecond),
+          twoDigits (w .time .second) ++ 46 ∷ sixDigits (w .time .microsecond),
           refl,
           (refl, refl),
           (
-            two (w .time .second),
-            46 ∷ six (w .time .microsecond),
+            twoDigits (w .time .second),
+            46 ∷ sixDigits (w .time .microsecond),
             refl,
             two-written (w .time .second) (f .second),
-            inr ((46, w .time .microsecond), (46 ∷ [], six (w .time .microsecond), refl, (refl, refl), six-written (w .time .microsecond) (f .microsecond)), refl),
+            inr ((46, w .time .microsecond), (46 ∷ [], sixDigits (w .time .microsecond), refl, (refl, refl), six-written (w .time .microsecond) (f .microsecond)), refl),
           ),
         ),
         refl,
       )
 
   minutes : List ℕ
-  minutes = 58 ∷ two (w .time .minute) ++ seconds
+  minutes = 58 ∷ twoDigits (w .time .minute) ++ seconds
 
   minute-written : Derives minutePart minutes (w .time .minute, (w .time .second, w .time .microsecond))
   unfolding Derives within inside minutes
@@ -65,16 +65,16 @@ module _ (w : Written) (f : Formed w) where
         (58, (w .time .minute, (w .time .second, w .time .microsecond))),
         (
           58 ∷ [],
-          two (w .time .minute) ++ seconds,
+          twoDigits (w .time .minute) ++ seconds,
           refl,
           (refl, refl),
-          (two (w .time .minute), seconds, refl, two-written (w .time .minute) (f .minute), second-written),
+          (twoDigits (w .time .minute), seconds, refl, two-written (w .time .minute) (f .minute), second-written),
         ),
         refl,
       )
 
   clock : List ℕ
-  clock = 84 ∷ two (w .time .hour) ++ minutes ++ 90 ∷ []
+  clock = 84 ∷ twoDigits (w .time .hour) ++ minutes ++ 90 ∷ []
 
   time-written : Derives timePart clock (w .time)
   unfolding Derives within inside clock
@@ -83,13 +83,13 @@ module _ (w : Written) (f : Formed w) where
         (84, w .time),
         (
           84 ∷ [],
-          two (w .time .hour) ++ minutes ++ 90 ∷ [],
+          twoDigits (w .time .hour) ++ minutes ++ 90 ∷ [],
           refl,
           (refl, refl),
           (
             (w .time .hour, ((w .time .minute, (w .time .second, w .time .microsecond)), w .time .zone)),
             (
-              two (w .time .hour),
+              twoDigits (w .time .hour),
               minutes ++ 90 ∷ [],
               refl,
               two-written (w .time .hour) (f .hour),
@@ -102,7 +102,7 @@ module _ (w : Written) (f : Formed w) where
       )
 
   days : List ℕ
-  days = 45 ∷ two (w .day) ++ clock
+  days = 45 ∷ twoDigits (w .day) ++ clock
 
   day-written : Derives dayPart days (w .day, w .time)
   unfolding Derives within inside days
@@ -111,16 +111,16 @@ module _ (w : Written) (f : Formed w) where
         (45, (w .day, w .time)),
         (
           45 ∷ [],
-          two (w .day) ++ clock,
+          twoDigits (w .day) ++ clock,
           refl,
           (refl, refl),
-          (two (w .day), clock, refl, two-written (w .day) (f .day), time-written),
+          (twoDigits (w .day), clock, refl, two-written (w .day) (f .day), time-written),
         ),
         refl,
       )
 
   months : List ℕ
-  months = 45 ∷ two (w .month) ++ days
+  months = 45 ∷ twoDigits (w .month) ++ days
 
   month-written : Derives monthPart months (w .month, (w .day, w .time))
   unfolding Derives within inside months
@@ -129,27 +129,27 @@ module _ (w : Written) (f : Formed w) where
         (45, (w .month, (w .day, w .time))),
         (
           45 ∷ [],
-          two (w .month) ++ days,
+          twoDigits (w .month) ++ days,
           refl,
           (refl, refl),
-          (two (w .month), days, refl, two-written (w .month) (f .month), day-written),
+          (twoDigits (w .month), days, refl, two-written (w .month) (f .month), day-written),
         ),
         refl,
       )
 
-  abbrev signed : Bool → Written
+  abbrev signed : Bool → WrittenDate
   signed b = record { negative = b; year = w .year; month = w .month; day = w .day; time = w .time }
 
-  date-written : (b : Bool) → w .negative ≡ b → Derives date (cond b (45 ∷ four (w .year) ++ months) (four (w .year) ++ months)) w
+  date-written : (b : Bool) → w .negative ≡ b → Derives dateRule (cond b (45 ∷ fourDigits (w .year) ++ months) (fourDigits (w .year) ++ months)) w
   unfolding Derives within inside
   date-written true e = (
     (true, (w .year, (w .month, (w .day, w .time)))),
     (
       45 ∷ [],
-      four (w .year) ++ months,
+      fourDigits (w .year) ++ months,
       refl,
       inr (45, (refl, refl), refl),
-      (four (w .year), months, refl, four-written (w .year) (f .year), month-written),
+      (fourDigits (w .year), months, refl, four-written (w .year) (f .year), month-written),
     ),
     ap signed e,
   )
@@ -157,21 +157,21 @@ module _ (w : Written) (f : Formed w) where
     (false, (w .year, (w .month, (w .day, w .time)))),
     (
       [],
-      four (w .year) ++ months,
+      fourDigits (w .year) ++ months,
       refl,
       inl (refl, refl),
-      (four (w .year), months, refl, four-written (w .year) (f .year), month-written),
+      (fourDigits (w .year), months, refl, four-written (w .year) (f .year), month-written),
     ),
     ap signed e,
   )
 
-  same-text : isoText w ≡ cond (w .negative) (45 ∷ four (w .year) ++ months) (four (w .year) ++ months)
+  same-text : isoText w ≡ cond (w .negative) (45 ∷ fourDigits (w .year) ++ months) (fourDigits (w .year) ++ months)
   unfolding isoText months days clock minutes seconds
   same-text = refl
 
-  pub read-back : read date (isoText w) ≡ some w
-  read-back = ap (read date) same-text ∙ date-read (cond (w .negative) (45 ∷ four (w .year) ++ months) (four (w .year) ++ months)) w .1 (date-written (w .negative) refl)
+  pub read-back : read dateRule (isoText w) ≡ some w
+  read-back = ap (read dateRule) same-text ∙ date-read (cond (w .negative) (45 ∷ fourDigits (w .year) ++ months) (fourDigits (w .year) ++ months)) w .1 (date-written (w .negative) refl)
 
 -- dates in UTC that share a text are the same
-pub no-shared : (v w : Written) → Formed v → Formed w → isoText v ≡ isoText w → v ≡ w
+pub no-shared : (v w : WrittenDate) → Formed v → Formed w → isoText v ≡ isoText w → v ≡ w
 no-shared v w f g e = let x = read-back v f in let y = read-back w g in cc

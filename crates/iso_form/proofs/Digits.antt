@@ -12,20 +12,20 @@ use Rattle.grammar.specs.Grammar.{inside, within, every, starts, Derives}
 use Rattle.grammar.specs.Rules.{digit, decimal, number}
 use Rattle.grammar.proofs.Classes.{every-append, starts-every}
 use Rattle.date_text.specs.DateRule.{fraction}
-use Rattle.iso_form.specs.Form.{two, four, six}
+use Rattle.iso_form.specs.Form.{twoDigits, fourDigits, sixDigits}
 
 -- the last k digits of n
 abbrev pub places : ℕ → ℕ → List ℕ
 places zero n = []
 places (suc k) n = places k (n / 10) ++ ((n % 10 + 48) ∷ [])
 
-two-places : (n : ℕ) → two n ≡ places 2 n
+two-places : (n : ℕ) → twoDigits n ≡ places 2 n
 two-places n = rw (div-one n)
 
-four-places : (n : ℕ) → four n ≡ places 4 n
+four-places : (n : ℕ) → fourDigits n ≡ places 4 n
 four-places n = rw (div-one n, div-div-eq-div-mul n 10 10, div-div-eq-div-mul n 100 10)
 
-six-places : (n : ℕ) → six n ≡ places 6 n
+six-places : (n : ℕ) → sixDigits n ≡ places 6 n
 six-places n = rw (div-one n, div-div-eq-div-mul n 10 10, div-div-eq-div-mul n 100 10, div-div-eq-div-mul n 1000 10, div-div-eq-div-mul n 10000 10)
 
 decimal-last : (m b : ℕ) (s : List ℕ) → decimal m (s ++ b ∷ []) ≡ decimal m s * 10 + (b - 48)
@@ -58,13 +58,13 @@ module _ (k n : ℕ) (l : 1 ≤ k) (h : n < 10 ^ k) where
       let s = places-length k n in
       (starts-every digit (places k n) (omega arith) (places-every k n), places-every k n, rw (le-leb (length (places k n)) k (omega arith)) (ap some (places-decimal k n h)))
 
-pub two-written : (n : ℕ) → n ≤ 99 → Derives (number 2) (two n) n
+pub two-written : (n : ℕ) → n ≤ 99 → Derives (number 2) (twoDigits n) n
 two-written n h = rw (two-places n) (number-written 2 n (omega arith) (omega arith))
 
-pub four-written : (n : ℕ) → n ≤ 9999 → Derives (number 4) (four n) n
+pub four-written : (n : ℕ) → n ≤ 9999 → Derives (number 4) (fourDigits n) n
 four-written n h = rw (four-places n) (number-written 4 n (omega arith) (omega arith))
 
-pub six-written : (n : ℕ) → n ≤ 999999 → Derives fraction (six n) n
+pub six-written : (n : ℕ) → n ≤ 999999 → Derives fraction (sixDigits n) n
 unfolding Derives
 six-written n h =
     let e : decimal 0 (places 6 n) * 1 ≡ n = rw (places-decimal 6 n (omega arith)) (omega arith) in

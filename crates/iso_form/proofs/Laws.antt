@@ -8,7 +8,7 @@ use lib.ListN.{length, take, drop}
 use lib.Seq.{take-length}
 use borrow.Author.Tests.{le-leb, lt-leb}
 use Rattle.refusal.specs.declared.Refusal.{Refusal}
-use Rattle.date_text.specs.declared.Written.{Written}
+use Rattle.date_text.specs.declared.WrittenDate.{WrittenDate}
 use Rattle.iso_form.specs.declared.LengthAnswer.{LengthAnswer}
 use Rattle.iso_form.specs.Form.{body, isoText, lengthAnswer, over}
 use Rattle.iso_form.specs.Closed.{lead}
@@ -19,7 +19,7 @@ lead-small false = omega arith
 
 -- ---- the text
 
-pub iso-length : (w : Written) → length (isoText w) ≡ 28 - lead (w .negative)
+pub iso-length : (w : WrittenDate) → length (isoText w) ≡ 28 - lead (w .negative)
 unfolding isoText
 iso-length w = go (w .negative)
   where
@@ -27,7 +27,7 @@ iso-length w = go (w .negative)
     go true = refl
     go false = refl
 
-iso-part : (w : Written) → take (28 - lead (w .negative)) (drop (lead (w .negative)) (45 ∷ body w)) ≡ isoText w
+iso-part : (w : WrittenDate) → take (28 - lead (w .negative)) (drop (lead (w .negative)) (45 ∷ body w)) ≡ isoText w
 unfolding isoText
 iso-part w = go (w .negative)
   where
@@ -56,7 +56,7 @@ module _ (text room : List ℕ) (h : length text ≤ length room) where
   whole-over = rw (le-leb (length text) (length room) h)
 
 -- what a copy of the part to the front of the room leaves
-pub copied : (w : Written) (t room : List ℕ) (a n : ℕ) → a ≡ lead (w .negative) → t ≡ 45 ∷ body w → length (isoText w) ≤ length room → n ≡ length (take (28 - a) (drop a t)) → take n (take (28 - a) (drop a t)) ++ drop n room ≡ over (isoText w) room
+pub copied : (w : WrittenDate) (t room : List ℕ) (a n : ℕ) → a ≡ lead (w .negative) → t ≡ 45 ∷ body w → length (isoText w) ≤ length room → n ≡ length (take (28 - a) (drop a t)) → take n (take (28 - a) (drop a t)) ++ drop n room ≡ over (isoText w) room
 copied w t room a n p q h e =
     let s : take (28 - a) (drop a t) ≡ isoText w = rw (p, q) (iso-part w) in
     rw (e, s) (ap₂ _++_ (take-length (isoText w)) refl ∙ sym (whole-over (isoText w) room h))

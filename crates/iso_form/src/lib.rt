@@ -3,9 +3,9 @@
 ghost use mathlib.Core.Path.{_≡_};
 ghost use mathlib.Core.List.{_∷_};
 ghost use Prim.Native.Nat.{_≤_};
-ghost use Rattle.iso_form.specs.Form.{place, body, isoText, lengthAnswer, over};
+ghost use Rattle.iso_form.specs.Form.{digitAt, body, isoText, lengthAnswer, over};
 ghost use Rattle.iso_form.specs.Closed.{lead};
-use date_text::Written;
+use date_text::WrittenDate;
 use refusal::Refusal;
 
 // The length of what was written.
@@ -15,7 +15,7 @@ pub enum LengthAnswer {
 }
 
 // The text of 28 bytes, whose first byte is the minus.
-fn text(w: Written) -> [u8; 28]
+fn text(w: WrittenDate) -> [u8; 28]
     ensures { λ r. ⌜ r ≡ 45 ∷ body w ⌝ }
 {
     let t = w.time;
@@ -59,7 +59,7 @@ fn start(negative: bool) -> usize
 }
 
 // Writes the text of a date in UTC; room that is too short keeps its bytes.
-pub fn write_form(w: Written, room: &mut [u8]) -> LengthAnswer
+pub fn write_form(w: WrittenDate, room: &mut [u8]) -> LengthAnswer
     ensures { λ r. ⌜ r ≡ lengthAnswer (isoText w) (now (room .entry)) ⌝ }
     ensures { λ _. ⌜ now (room .exit) ≡ over (isoText w) (now (room .entry)) ⌝ }
 {

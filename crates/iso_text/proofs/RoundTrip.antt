@@ -18,14 +18,14 @@ use Rattle.instant.specs.declared.Fields.{Fields}
 use Rattle.instant.specs.declared.FieldsAnswer.{FieldsAnswer}
 use Rattle.instant.specs.declared.InstantAnswer.{InstantAnswer}
 use Rattle.instant.proofs.Theorems.{shown, time-small, instant-of-fields}
-use Rattle.date_text.specs.DateRule.{utc, date}
+use Rattle.date_text.specs.DateRule.{utc, dateRule}
 use Rattle.iso_form.proofs.Back.{Formed, read-back}
 use Rattle.iso_form.proofs.Laws.{iso-length}
 use Rattle.written_instant.specs.Instants.{signedOf, localFields, ranged, lessZone, writtenInstant}
-use Rattle.written_instant.proofs.Texts.{text-read}
+use Rattle.named_text.proofs.Laws.{text-named, text-read}
 use Rattle.calendar_name.specs.Names.{calendarOf}
 use Rattle.iso_text.proofs.Laws.{year-small}
-use Rattle.iso_text.specs.Iso.{isNegative, writtenOf, textOf, readIso}
+use Rattle.iso_text.specs.Iso.{isNegative, utcDate, textOf, readIso}
 
 signed-back : (y : ℤ) → signedOf (isNegative y) (natAbs y) ≡ y
 signed-back (pos n) = refl
@@ -33,7 +33,7 @@ signed-back (negsuc n) = refl
 
 module _ (c : Calendar) (t : ℤ) (f : Fields) (e : fieldsAnswer c t ≡ FieldsAnswer.Is f) where
   -- the fields of an instant fit the form
-  formed-at : Formed (writtenOf (fieldsAt (dateOf c (dayOf t)) (timeOf t)))
+  formed-at : Formed (utcDate (fieldsAt (dateOf c (dayOf t)) (timeOf t)))
   formed-at =
       let x = dateOf c (dayOf t) in
       let v = valid-of c x (dates-exist c (dayOf t)) in
@@ -50,16 +50,16 @@ module _ (c : Calendar) (t : ℤ) (f : Fields) (e : fieldsAnswer c t ≡ FieldsA
         zone = refl;
       }
 
-  formed : Formed (writtenOf f)
-  formed = subst (λ (g : Fields). Formed (writtenOf g)) (shown c t f e .is) formed-at
+  formed : Formed (utcDate f)
+  formed = subst (λ (g : Fields). Formed (utcDate g)) (shown c t f e .is) formed-at
 
-  read-text : read date (textOf f) ≡ some (writtenOf f)
-  read-text = read-back (writtenOf f) formed
+  read-text : read dateRule (textOf f) ≡ some (utcDate f)
+  read-text = read-back (utcDate f) formed
 
-  local-back : localFields (writtenOf f) ≡ f
+  local-back : localFields (utcDate f) ≡ f
   local-back = λ i. record { year = signed-back (f .year) i; month = f .month; day = f .day; hour = f .hour; minute = f .minute; second = f .second; microsecond = f .microsecond }
 
-  instant-back : writtenInstant c (writtenOf f) ≡ InstantAnswer.Is t
+  instant-back : writtenInstant c (utcDate f) ≡ InstantAnswer.Is t
   unfolding writtenInstant
   instant-back =
       let r : ranged c t ≡ InstantAnswer.Is t = rw (shown c t f e .inside) in
@@ -71,8 +71,8 @@ module _ (c : Calendar) (t : ℤ) (f : Fields) (e : fieldsAnswer c t ≡ FieldsA
   pub round-trip : (name : List ℕ) → calendarOf name ≡ some c → readIso name (textOf f) ≡ InstantAnswer.Is t
   unfolding readIso
   round-trip name n =
-      let l : length (textOf f) ≤ 128 = omega (arith, iso-length (writtenOf f)) in
-      sym (text-read InstantAnswer.Refused date writtenInstant name (textOf f) l c (some (writtenOf f)) n read-text) ∙ instant-back
+      let l : length (textOf f) ≤ 128 = omega (arith, iso-length (utcDate f)) in
+      sym (text-read InstantAnswer.Refused dateRule writtenInstant name (textOf f) c (some (utcDate f)) (text-named name (textOf f) (some c) l n) read-text) ∙ instant-back
 
 -- no two instants of one calendar share a text
 pub one-text : (c : Calendar) (t u : ℤ) (f g : Fields) → fieldsAnswer c t ≡ FieldsAnswer.Is f → fieldsAnswer c u ≡ FieldsAnswer.Is g → textOf f ≡ textOf g → t ≡ u
@@ -81,6 +81,6 @@ one-text c t u f g p q e =
     let y = instant-back c u g q in
     let a = read-text c t f p in
     let b = read-text c u g q in
-    let w : writtenOf f ≡ writtenOf g = (cc) in
+    let w : utcDate f ≡ utcDate g = (cc) in
     let z : InstantAnswer.Is t ≡ InstantAnswer.Is u = sym x ∙ (ap (writtenInstant c) w ∙ y) in
     cc

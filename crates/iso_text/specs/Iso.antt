@@ -9,17 +9,17 @@ use Rattle.instant.specs.Instant.{fieldsAnswer}
 use Rattle.instant.specs.declared.Fields.{Fields}
 use Rattle.instant.specs.declared.FieldsAnswer.{FieldsAnswer}
 use Rattle.instant.specs.declared.InstantAnswer.{InstantAnswer}
-use Rattle.date_text.specs.declared.Written.{Written}
-use Rattle.date_text.specs.DateRule.{utc, date}
+use Rattle.date_text.specs.declared.WrittenDate.{WrittenDate}
+use Rattle.date_text.specs.DateRule.{utc, dateRule}
 use Rattle.written_instant.specs.Instants.{writtenInstant}
-use Rattle.written_instant.specs.Texts.{readText}
+use Rattle.named_text.specs.Texts.{readText}
 use Rattle.iso_form.specs.Form.{isoText, lengthAnswer, over}
 use Rattle.iso_form.specs.declared.LengthAnswer.{LengthAnswer}
 
 -- ---- reading
 
 unfoldable pub readIso : List ℕ → List ℕ → InstantAnswer
-readIso name text = readText InstantAnswer.Refused date writtenInstant name text
+readIso name text = readText InstantAnswer.Refused dateRule writtenInstant name text
 
 -- ---- writing
 
@@ -28,8 +28,8 @@ isNegative (pos n) = false
 isNegative (negsuc n) = true
 
 -- fields, which are in UTC, as a date that is written
-abbrev pub writtenOf : Fields → Written
-writtenOf f =
+abbrev pub utcDate : Fields → WrittenDate
+utcDate f =
     record {
       negative = isNegative (f .year);
       year = natAbs (f .year);
@@ -39,19 +39,19 @@ writtenOf f =
     }
 
 abbrev pub textOf : Fields → List ℕ
-textOf f = isoText (writtenOf f)
+textOf f = isoText (utcDate f)
 
-abbrev pub lengthOf : FieldsAnswer → List ℕ → LengthAnswer
-lengthOf (FieldsAnswer.Is f) room = lengthAnswer (textOf f) room
-lengthOf (FieldsAnswer.Refused r) room = LengthAnswer.Refused r
+abbrev pub isoLength : FieldsAnswer → List ℕ → LengthAnswer
+isoLength (FieldsAnswer.Is f) room = lengthAnswer (textOf f) room
+isoLength (FieldsAnswer.Refused r) room = LengthAnswer.Refused r
 
-abbrev pub roomOf : FieldsAnswer → List ℕ → List ℕ
-roomOf (FieldsAnswer.Is f) room = over (textOf f) room
-roomOf (FieldsAnswer.Refused r) room = room
+abbrev pub isoRoom : FieldsAnswer → List ℕ → List ℕ
+isoRoom (FieldsAnswer.Is f) room = over (textOf f) room
+isoRoom (FieldsAnswer.Refused r) room = room
 
 -- what writing an instant answers, and what it leaves in the room
 unfoldable pub writeIso : Calendar → ℤ → List ℕ → LengthAnswer
-writeIso c t room = lengthOf (fieldsAnswer c t) room
+writeIso c t room = isoLength (fieldsAnswer c t) room
 
 unfoldable pub roomIso : Calendar → ℤ → List ℕ → List ℕ
-roomIso c t room = roomOf (fieldsAnswer c t) room
+roomIso c t room = isoRoom (fieldsAnswer c t) room

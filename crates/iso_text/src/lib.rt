@@ -1,36 +1,35 @@
-// ISO text: an instant read from a calendar name and a text, and an instant written into lent room (specs/Iso.antt). Both calls are
-// total. proofs/RoundTrip.antt shows that reading what was written gives the instant, so that no two instants of a calendar share a text.
+// ISO text: an instant read from a calendar name and a text, and an instant written into lent room (specs/Iso.antt). `read_iso` and
+// `write_iso` are total. proofs/RoundTrip.antt shows that reading what was written gives the instant, so that no two instants of a calendar share a text.
 ghost use mathlib.Core.Path.{_≡_};
 ghost use mathlib.Core.Bool.{true};
 ghost use lib.IntN.{natAbs};
 ghost use Rattle.calendar.specs.Calendar.{inYears};
-ghost use Rattle.iso_text.specs.Iso.{readIso, writtenOf, writeIso, roomIso};
+ghost use Rattle.iso_text.specs.Iso.{readIso, utcDate, writeIso, roomIso};
 use calendar::Calendar;
-use calendar_name::CalendarNamed;
 use date_text::Time;
-use date_text::Written;
 use date_text::WrittenAnswer;
+use date_text::WrittenDate;
 use date_text::Zone;
 use instant::Fields;
 use instant::FieldsAnswer;
 use instant::InstantAnswer;
 use iso_form::LengthAnswer;
+use named_text::TextCalendar;
 use refusal::Refusal;
 
 // The instant of a text in the calendar of a name.
 pub fn read_iso(name: &[u8], text: &[u8]) -> InstantAnswer
     ensures { λ r. ⌜ r ≡ readIso (now (name .entry)) (now (text .entry)) ⌝ }
 {
-    if 128 < text.len() {
-        return InstantAnswer::Refused(Refusal::TextTooLong);
+    match named_text::text_calendar(name, text) {
+        TextCalendar::Refused(r) => return InstantAnswer::Refused(r),
+        TextCalendar::Is(c) => {
+            let WrittenAnswer::Read(w) = date_text::read_date(text) else {
+                return InstantAnswer::Refused(Refusal::IllFormed);
+            };
+            return written_instant::written_instant(c, w);
+        }
     }
-    let CalendarNamed::Is(c) = calendar_name::calendar_of(name) else {
-        return InstantAnswer::Refused(Refusal::UnknownCalendar);
-    };
-    let WrittenAnswer::Read(w) = date_text::read_date(text) else {
-        return InstantAnswer::Refused(Refusal::IllFormed);
-    };
-    written_instant::written_instant(c, w)
 }
 
 // A year of four digits without its sign.
@@ -46,11 +45,11 @@ fn year_digits(y: i64) -> u32
 }
 
 // Fields as a date that is written.
-fn written_of(f: Fields) -> Written
+fn written_of(f: Fields) -> WrittenDate
     requires { ⌜ inYears (f .year) ≡ true ⌝ }
-    ensures { λ r. ⌜ r ≡ writtenOf f ⌝ }
+    ensures { λ r. ⌜ r ≡ utcDate f ⌝ }
 {
-    Written {
+    WrittenDate {
         negative: f.year < 0,
         year: year_digits(f.year),
         month: f.month,

@@ -6,7 +6,7 @@ use lib.ListN.{length}
 use borrow.Author.Tests.{le-leb, lt-leb, lt-ltb, le-ltb}
 use Rattle.grammar.specs.Reader.{read}
 use Rattle.grammar.specs.Rules.{bytes}
-use Rattle.iso_form.specs.Form.{two}
+use Rattle.iso_form.specs.Form.{twoDigits}
 use Rattle.refusal.specs.Number.{numberOf}
 use Rattle.refusal.specs.declared.Refusal.{Refusal}
 use Rattle.refusal.specs.declared.Refusal.the-variants.{TextTooLong}
@@ -32,5 +32,5 @@ module _ (r : Refusal) (n : ℕ) (e : n ≡ numberOf r) where
   pub one-digit-text : n < 10 → bytes "refused " ++ (n + 48) ∷ newline ≡ refusedText r ++ newline
   one-digit-text h = rw (← e, lt-ltb n 10 h)
 
-  pub two-digit-text : 10 ≤ n → bytes "refused " ++ two n ++ newline ≡ refusedText r ++ newline
+  pub two-digit-text : 10 ≤ n → bytes "refused " ++ twoDigits n ++ newline ≡ refusedText r ++ newline
   two-digit-text h = rw (← e, le-ltb n 10 h)

@@ -36,11 +36,11 @@ use Rattle.axis_types.specs.declared.Offset.{Offset}
 use Rattle.axis.proofs.Demands.{inverse}
 use Rattle.axis_text.specs.Units.{readUnits}
 use Rattle.axis_text.specs.declared.AxisAnswer.{AxisAnswer}
-use Rattle.iso_form.specs.Form.{two}
+use Rattle.iso_form.specs.Form.{twoDigits}
 use Rattle.iso_text.specs.Iso.{textOf}
 use Rattle.offset_text.specs.OffsetRule.{offset}
 use Rattle.listing_line.specs.declared.LineAnswer.{LineAnswer}
-use Rattle.listing_line.specs.Line.{onFirst, parted, ofReading, onAxis, withOffset, ofParts, lineAnswer, shortNumber, refusedText, fieldsIn, rounded, newline, answerText, lineText, lengthIn}
+use Rattle.listing_line.specs.Line.{onFirst, parted, lineReading, onAxis, withOffset, ofParts, lineAnswer, shortNumber, refusedText, fieldsIn, roundedText, newline, answerText, lineText, lengthIn}
 use Rattle.listing_line.proofs.Instants.{shown-length}
 
 -- ---- an offset is read as an instant of the range
@@ -90,7 +90,7 @@ module _ (c : Calendar) (t : ℤ) (exact : Bool) where
   refused-shows : {A : Type 0} {r : Refusal} → LineAnswer.Refused r ≡ LineAnswer.Shows c t exact → A
   refused-shows e = absurd (let z : _≡_ {A = ℕ} 0 1 = cc in omega arith)
 
-  of-reading : (d : Calendar) (r : Reading) → ((u : ℤ) (e : Bool) → r ≡ Reading.At u e → inRange d u ≡ true) → ofReading d r ≡ LineAnswer.Shows c t exact → inRange c t ≡ true
+  of-reading : (d : Calendar) (r : Reading) → ((u : ℤ) (e : Bool) → r ≡ Reading.At u e → inRange d u ≡ true) → lineReading d r ≡ LineAnswer.Shows c t exact → inRange c t ≡ true
   of-reading d (Reading.At u e) f h =
       let p : c ≡ d = cc in
       let q : t ≡ u = cc in
@@ -145,12 +145,12 @@ one-more (b ∷ s) = go (eqb b 124) (parted s) (one-more s)
 number-length : (n : ℕ) → length (shortNumber n) ≤ 2
 number-length n = go (ltb n 10)
   where
-    go : (b : Bool) → length (cond b ((n + 48) ∷ []) (two n)) ≤ 2
+    go : (b : Bool) → length (cond b ((n + 48) ∷ []) (twoDigits n)) ≤ 2
     go true = omega arith
     go false = omega arith
 
 printed-length : (a : LineAnswer) → length (answerText a ++ newline) ≤ 37
-printed-length (LineAnswer.Shows c t exact) = rw (append-assoc (textOf (fieldsIn c t)) (rounded exact) newline) (shown-length c t exact)
+printed-length (LineAnswer.Shows c t exact) = rw (append-assoc (textOf (fieldsIn c t)) (roundedText exact) newline) (shown-length c t exact)
 printed-length (LineAnswer.Refused r) =
     let l = length-append (refusedText r) newline in
     let m = length-append (bytes "refused ") (shortNumber (numberOf r)) in

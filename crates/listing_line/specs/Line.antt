@@ -19,7 +19,7 @@ use Rattle.axis.specs.Axis.{readOffset}
 use Rattle.axis_types.specs.declared.Offset.{Offset}
 use Rattle.grammar.specs.Reader.{read}
 use Rattle.grammar.specs.Rules.{bytes}
-use Rattle.iso_form.specs.Form.{two}
+use Rattle.iso_form.specs.Form.{twoDigits}
 use Rattle.iso_text.specs.Iso.{textOf}
 use Rattle.axis_text.specs.Units.{readUnits}
 use Rattle.axis_text.specs.declared.AxisAnswer.{AxisAnswer}
@@ -41,13 +41,13 @@ parted (b ∷ s) = cond (eqb b (code "|")) ([] ∷ parted s) (onFirst b (parted 
 -- ---- what a line answers: an instant of a calendar and whether it is exact, or a refusal
 
 -- the reading of an offset in a calendar
-abbrev pub ofReading : Calendar → Reading → LineAnswer
-ofReading c (Reading.At t exact) = LineAnswer.Shows c t exact
-ofReading c (Reading.Refused r) = LineAnswer.Refused r
+abbrev pub lineReading : Calendar → Reading → LineAnswer
+lineReading c (Reading.At t exact) = LineAnswer.Shows c t exact
+lineReading c (Reading.Refused r) = LineAnswer.Refused r
 
 -- an offset on the axis of the calendar name and the units, where there is one
 abbrev pub onAxis : AxisAnswer → Offset → LineAnswer
-onAxis (AxisAnswer.Is a) o = ofReading (a .calendar) (readOffset a o)
+onAxis (AxisAnswer.Is a) o = lineReading (a .calendar) (readOffset a o)
 onAxis (AxisAnswer.Refused r) o = LineAnswer.Refused r
 
 -- an offset of another form is refused before the name and the units are looked at
@@ -71,7 +71,7 @@ lineAnswer line = cond (leb (length line) 255) (ofParts (parted line)) (LineAnsw
 
 -- a number of one or two digits
 abbrev pub shortNumber : ℕ → List ℕ
-shortNumber n = cond (ltb n 10) ((n + code "0") ∷ []) (two n)
+shortNumber n = cond (ltb n 10) ((n + code "0") ∷ []) (twoDigits n)
 
 abbrev pub refusedText : Refusal → List ℕ
 refusedText r = bytes "refused " ++ shortNumber (numberOf r)
@@ -80,15 +80,15 @@ refusedText r = bytes "refused " ++ shortNumber (numberOf r)
 abbrev pub fieldsIn : Calendar → ℤ → Fields
 fieldsIn c t = fieldsAt (dateOf c (dayOf t)) (timeOf t)
 
-abbrev pub rounded : Bool → List ℕ
-rounded exact = cond exact [] (bytes " rounded")
+abbrev pub roundedText : Bool → List ℕ
+roundedText exact = cond exact [] (bytes " rounded")
 
 abbrev pub newline : List ℕ
 newline = bytes "\n"
 
 -- ISO text, and a word where the instant is not exact; or the number of the refusal
 abbrev pub answerText : LineAnswer → List ℕ
-answerText (LineAnswer.Shows c t exact) = textOf (fieldsIn c t) ++ rounded exact
+answerText (LineAnswer.Shows c t exact) = textOf (fieldsIn c t) ++ roundedText exact
 answerText (LineAnswer.Refused r) = refusedText r
 
 unfoldable pub lineText : List ℕ → List ℕ

@@ -1,5 +1,5 @@
-// One line of the listing program (specs/Line.antt): what a line of input answers, and the bytes that are printed for it. Both calls are
-// total. A reader may rely on the theorems of proofs/Theorems.antt.
+// One line of the listing program (specs/Line.antt): what a line of input answers, and the bytes that are printed for it. `read_line` and
+// `answer` are total. A reader may rely on the theorems of proofs/Theorems.antt.
 ghost use mathlib.Core.Path.{_≡_};
 ghost use mathlib.Core.Bool.{true};
 ghost use mathlib.Core.List.{_∷_, _++_};
@@ -8,8 +8,8 @@ ghost use Prim.Native.Nat.{_+_, _≤_, _<_};
 ghost use lib.ListN.{length};
 ghost use Rattle.instant.specs.Instant.{inRange};
 ghost use Rattle.grammar.specs.Rules.{bytes as bytesOf};
-ghost use Rattle.iso_form.specs.Form.{two, over};
-ghost use Rattle.listing_line.specs.Line.{ofReading, withOffset, lineAnswer, refusedText, rounded, newline, answerText, lineText, lengthIn};
+ghost use Rattle.iso_form.specs.Form.{twoDigits, over};
+ghost use Rattle.listing_line.specs.Line.{lineReading, withOffset, lineAnswer, refusedText, roundedText, newline, answerText, lineText, lengthIn};
 ghost use Rattle.listing_line.specs.declared.LineAnswer.{LineAnswer as Answer};
 ghost use Rattle.listing_line.specs.Closed.{BarsOf};
 use axis_text::AxisAnswer;
@@ -53,7 +53,7 @@ fn bars_of(line: &[u8]) -> Bars
 }
 
 fn of_reading(c: Calendar, r: Reading) -> LineAnswer
-    ensures { λ a. ⌜ a ≡ ofReading c r ⌝ }
+    ensures { λ a. ⌜ a ≡ lineReading c r ⌝ }
 {
     match r {
         Reading::At(t, exact) => return LineAnswer::Shows(c, t, exact),
@@ -112,7 +112,7 @@ fn one_digit(n: u32) -> [u8; 10]
 }
 
 fn two_digits(n: u32) -> [u8; 11]
-    ensures { λ r. ⌜ r ≡ bytesOf "refused " ++ two n ++ newline ⌝ }
+    ensures { λ r. ⌜ r ≡ bytesOf "refused " ++ twoDigits n ++ newline ⌝ }
 {
     [
         114,
@@ -144,8 +144,8 @@ fn put_refused(r: Refusal, room: &mut [u8]) -> usize
 
 // Puts what stands after ISO text.
 fn put_end(exact: bool, room: &mut [u8]) -> usize
-    ensures { λ r. ⌜ r ≡ lengthIn (rounded exact ++ newline) (now (room .entry)) ⌝ }
-    ensures { λ _. ⌜ now (room .exit) ≡ over (rounded exact ++ newline) (now (room .entry)) ⌝ }
+    ensures { λ r. ⌜ r ≡ lengthIn (roundedText exact ++ newline) (now (room .entry)) ⌝ }
+    ensures { λ _. ⌜ now (room .exit) ≡ over (roundedText exact ++ newline) (now (room .entry)) ⌝ }
 {
     if exact {
         return put(b"\n", room);

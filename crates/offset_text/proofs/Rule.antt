@@ -9,7 +9,7 @@ use lib.Dec.{leb}
 use lib.ListN.{length, drop}
 use borrow.Author.Tests.{le-leb, lt-leb, eq-eqb, ne-eqb}
 use Rattle.grammar.specs.Grammar.{Class, every, starts, Grammar, one, run, _or_, give, Derives}
-use Rattle.grammar.specs.Reader.{Scanned, found, nothing, given, nullable, first, scan, whole, read}
+use Rattle.grammar.specs.Reader.{Scan, found, nothing, given, nullable, first, scan, whole, read}
 use Rattle.grammar.specs.Clear.{clear}
 use Rattle.grammar.specs.Rules.{_⇒_, digit, decimal, number}
 use Rattle.grammar.proofs.Tests.{clash, none-some}
@@ -48,7 +48,7 @@ pub give-read : {A B : Type 0} (f : A → B) (g : Grammar A) (s : List ℕ) → 
 unfolding read scan whole
 give-read {A} f g s = go (scan g s)
   where
-    go : (o : Scanned A) → whole (given f o) ≡ mapped f (whole o)
+    go : (o : Scan A) → whole (given f o) ≡ mapped f (whole o)
     go nothing = refl
     go (found v []) = refl
     go (found v (b ∷ r)) = refl

@@ -12,6 +12,6 @@ abbrev pub digitsFrom : ℕ → ℕ → List ℕ → Option ℕ
 digitsFrom base v [] = some v
 digitsFrom base v (b ∷ s) = cond (ltb (digitOf b) base) (digitsFrom base (v * base + digitOf b) s) none
 
-abbrev pub numberIn : Number → Option ℕ
-numberIn (Number.Is v) = some v
-numberIn Number.Nothing = none
+abbrev pub digitsIn : Number → Option ℕ
+digitsIn (Number.Is v) = some v
+digitsIn Number.Nothing = none

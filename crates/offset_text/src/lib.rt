@@ -1,5 +1,5 @@
 // The text of an offset in a line of the listing program: a whole number in decimal digits, or the bits of a double in hexadecimal ones
-// (specs/OffsetRule.antt). The call is total.
+// (specs/OffsetRule.antt). `read_offset` is total.
 ghost use mathlib.Core.Path.{_≡_};
 ghost use Prim.Native.Nat.{_^_, _≤_};
 ghost use lib.ListN.{length};
@@ -7,7 +7,7 @@ ghost use lib.Ieee.{binary64, ofBits};
 ghost use Rattle.grammar.specs.Reader.{read};
 ghost use Rattle.grammar.specs.Rules.{number};
 ghost use Rattle.offset_text.specs.OffsetRule.{digitOf, negative, positive, bits, offset, offsetAnswer};
-ghost use Rattle.offset_text.specs.Closed.{digitsFrom, numberIn};
+ghost use Rattle.offset_text.specs.Closed.{digitsFrom, digitsIn};
 use axis_types::Offset;
 use grammar::next_in;
 
@@ -46,7 +46,7 @@ fn digit_of(b: u8) -> u64
 fn number_to(base: u64, s: &[u8]) -> Number
     requires { ⌜ (1 ≤ base) × (base ≤ 16) ⌝ }
     requires { ⌜ base ^ length (now s) ≤ 2 ^ 64 ⌝ }
-    ensures { λ r. ⌜ digitsFrom base 0 (now (s .entry)) ≡ numberIn r ⌝ }
+    ensures { λ r. ⌜ digitsFrom base 0 (now (s .entry)) ≡ digitsIn r ⌝ }
 {
     let mut v: u64 = 0;
     let mut i = 0;
@@ -63,7 +63,7 @@ fn number_to(base: u64, s: &[u8]) -> Number
 
 // The number that 1 to 19 decimal digits write.
 fn decimal_of(s: &[u8]) -> Number
-    ensures { λ r. ⌜ read (number 19) (now (s .entry)) ≡ numberIn r ⌝ }
+    ensures { λ r. ⌜ read (number 19) (now (s .entry)) ≡ digitsIn r ⌝ }
 {
     if s.len() == 0 {
         return Number::Nothing;

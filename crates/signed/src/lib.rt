@@ -1,5 +1,6 @@
 // The border between signed and unsigned numbers. A signed number crosses it once, as the natural number
-// n + 2^63, and all arithmetic beyond it is unsigned. Both directions are total and do not branch on the sign.
+// n + 2^63, and all arithmetic beyond it is unsigned. Both directions are total; in machine code each is
+// one instruction.
 ghost use mathlib.Core.Path.{_≡_};
 ghost use Rattle.signed.specs.Bias.{raise, lower};
 

@@ -3,7 +3,7 @@ use Prim.Native.Nat.{ℕ}
 use mathlib.Core.List.{List}
 use mathlib.Core.Option.{Option, none, some}
 use lib.ListN.{drop}
-use Rattle.grammar.specs.Reader.{Scanned, found, nothing}
+use Rattle.grammar.specs.Reader.{Scan, found, nothing}
 use Rattle.axis_types.specs.declared.Period.{Period}
 use Rattle.axis_types.specs.declared.Mode.{Mode}
 use Rattle.units_text.specs.declared.Units.{Units}
@@ -16,11 +16,11 @@ abbrev pub meaningOf : Meaning → Option Period
 meaningOf (Meaning.Is p) = some p
 meaningOf Meaning.Nothing = none
 
-abbrev pub periodIn : List ℕ → PeriodAt → Scanned Period
+abbrev pub periodIn : List ℕ → PeriodAt → Scan Period
 periodIn s (PeriodAt.Found p next) = found p (drop next s)
 periodIn s PeriodAt.Nothing = nothing
 
-abbrev pub modeIn : List ℕ → ModeAt → Scanned Mode
+abbrev pub modeIn : List ℕ → ModeAt → Scan Mode
 modeIn s (ModeAt.Found m next) = found m (drop next s)
 modeIn s ModeAt.Nothing = nothing
 

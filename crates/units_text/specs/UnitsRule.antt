@@ -9,8 +9,8 @@ use Rattle.word_table.specs.Table.{Row, row, lookup}
 use Rattle.axis_types.specs.declared.Period.{Period}
 use Rattle.axis_types.specs.declared.Period.the-variants.{Second, Millisecond, Minute, Hour, Day, Week, Month, Year}
 use Rattle.axis_types.specs.declared.Mode.{Mode}
-use Rattle.date_text.specs.declared.Written.{Written}
-use Rattle.date_text.specs.DateRule.{date}
+use Rattle.date_text.specs.declared.WrittenDate.{WrittenDate}
+use Rattle.date_text.specs.DateRule.{dateRule}
 use Rattle.units_text.specs.declared.Units.{Units}
 
 -- ---- period words
@@ -48,10 +48,10 @@ spaces = run (range " " " ") (range " " " ") (λ s. some tt)
 abbrev pub mode : Grammar Mode
 mode = optional Mode.Fixed (give (λ (v : Unit {0}). Mode.Calendar) (word "CALENDAR" ⇒ spaces))
 
-abbrev pub since : Grammar Written
-since = spaces ⇒ word "SINCE" ⇒ spaces ⇒ date
+abbrev pub since : Grammar WrittenDate
+since = spaces ⇒ word "SINCE" ⇒ spaces ⇒ dateRule
 
-abbrev pub unitsOf : Mode × (Period × Written) → Units
+abbrev pub unitsOf : Mode × (Period × WrittenDate) → Units
 unitsOf v = record { mode = v .0; period = v .1 .0; reference = v .1 .1 }
 
 abbrev pub units : Grammar Units

@@ -15,8 +15,8 @@ ghost use Rattle.units_text.specs.UnitsRule.{periodWords, periodWord, sp
 ghost use Rattle.units_text.specs.Answers.{meaningOf, periodIn, modeIn, unitsAnswer};
 use axis_types::Mode;
 use axis_types::Period;
-use date_text::Written;
 use date_text::WrittenAt;
+use date_text::WrittenDate;
 use date_text::date_at;
 use grammar::EndAt;
 use grammar::letter_at;
@@ -30,7 +30,7 @@ use word_table::packed_of;
 pub struct Units {
     pub mode: Mode,
     pub period: Period,
-    pub reference: Written,
+    pub reference: WrittenDate,
 }
 
 // What a word means.

@@ -24,9 +24,9 @@ abbrev pub ofDate : DateAnswer → UppinaloDateAnswer
 ofDate (DateAnswer.Is d) = record { number = 0; date = d }
 ofDate (DateAnswer.Refused r) = noDate r
 
-abbrev pub dateIn : CodedCalendar → ℤ → UppinaloDateAnswer
-dateIn (CodedCalendar.Is c) n = ofDate (dateAnswer c n)
-dateIn CodedCalendar.Unknown n = noDate UnknownCalendar
+abbrev pub dateByCode : CodedCalendar → ℤ → UppinaloDateAnswer
+dateByCode (CodedCalendar.Is c) n = ofDate (dateAnswer c n)
+dateByCode CodedCalendar.Unknown n = noDate UnknownCalendar
 
 -- ---- a day number
 
@@ -37,9 +37,9 @@ abbrev pub ofDay : DayAnswer → UppinaloDayAnswer
 ofDay (DayAnswer.Is n) = record { number = 0; day = n }
 ofDay (DayAnswer.Refused r) = noDay r
 
-abbrev pub dayIn : CodedCalendar → Date → UppinaloDayAnswer
-dayIn (CodedCalendar.Is c) x = ofDay (dayAnswer c x)
-dayIn CodedCalendar.Unknown x = noDay UnknownCalendar
+abbrev pub dayByCode : CodedCalendar → Date → UppinaloDayAnswer
+dayByCode (CodedCalendar.Is c) x = ofDay (dayAnswer c x)
+dayByCode CodedCalendar.Unknown x = noDay UnknownCalendar
 
 -- ---- fields
 
@@ -50,6 +50,6 @@ abbrev pub ofFields : FieldsAnswer → UppinaloFieldsAnswer
 ofFields (FieldsAnswer.Is f) = record { number = 0; fields = f }
 ofFields (FieldsAnswer.Refused r) = noFields r
 
-abbrev pub fieldsIn : CodedCalendar → ℤ → UppinaloFieldsAnswer
-fieldsIn (CodedCalendar.Is c) t = ofFields (fieldsAnswer c t)
-fieldsIn CodedCalendar.Unknown t = noFields UnknownCalendar
+abbrev pub fieldsByCode : CodedCalendar → ℤ → UppinaloFieldsAnswer
+fieldsByCode (CodedCalendar.Is c) t = ofFields (fieldsAnswer c t)
+fieldsByCode CodedCalendar.Unknown t = noFields UnknownCalendar

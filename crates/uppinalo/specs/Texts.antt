@@ -38,10 +38,10 @@ ofLength (LengthAnswer.Is n) = record { number = 0; length = n }
 ofLength (LengthAnswer.Refused r) = noLength r
 
 -- the answer of writing the text of an instant, and what it leaves in the room
-abbrev pub lengthIn : CodedCalendar → ℤ → List ℕ → UppinaloLengthAnswer
-lengthIn (CodedCalendar.Is c) t room = ofLength (writeIso c t room)
-lengthIn CodedCalendar.Unknown t room = noLength UnknownCalendar
+abbrev pub lengthByCode : CodedCalendar → ℤ → List ℕ → UppinaloLengthAnswer
+lengthByCode (CodedCalendar.Is c) t room = ofLength (writeIso c t room)
+lengthByCode CodedCalendar.Unknown t room = noLength UnknownCalendar
 
-abbrev pub roomIn : CodedCalendar → ℤ → List ℕ → List ℕ
-roomIn (CodedCalendar.Is c) t room = roomIso c t room
-roomIn CodedCalendar.Unknown t room = room
+abbrev pub roomByCode : CodedCalendar → ℤ → List ℕ → List ℕ
+roomByCode (CodedCalendar.Is c) t room = roomIso c t room
+roomByCode CodedCalendar.Unknown t room = room

@@ -1,7 +1,7 @@
 // Runs of offsets on an axis.
 ghost use mathlib.Core.Path.{_≡_};
 ghost use Rattle.axis.specs.Axis.{readWholeOn, readDoubleOn};
-ghost use Rattle.codes.specs.Codes.{axisOf};
+ghost use Rattle.codes.specs.Codes.{codedAxis};
 ghost use Rattle.uppinalo.specs.Runs.{noRun, runOn, destinationOn};
 use codes::CodedAxis;
 use codes::UppinaloAxis;
@@ -26,8 +26,8 @@ pub extern "C" fn uppinalo_read_wholes(
     source: &[i64],
     destination: &mut [i64],
 ) -> RunAnswer
-    ensures answered { λ r. ⌜ r ≡ runOn (axisOf axis) readWholeOn (now (source .entry)) (now (destination .entry)) ⌝ }
-    ensures written { λ _. ⌜ now (destination .exit) ≡ destinationOn (axisOf axis) readWholeOn (now (source .entry)) (now (destination .entry)) ⌝ }
+    ensures answered { λ r. ⌜ r ≡ runOn (codedAxis axis) readWholeOn (now (source .entry)) (now (destination .entry)) ⌝ }
+    ensures written { λ _. ⌜ now (destination .exit) ≡ destinationOn (codedAxis axis) readWholeOn (now (source .entry)) (now (destination .entry)) ⌝ }
 {
     match codes::axis_of(axis) {
         CodedAxis::Refused(r) => return no_run(r),
@@ -42,8 +42,8 @@ pub extern "C" fn uppinalo_read_doubles(
     source: &[f64],
     destination: &mut [i64],
 ) -> RunAnswer
-    ensures answered { λ r. ⌜ r ≡ runOn (axisOf axis) readDoubleOn (now (source .entry)) (now (destination .entry)) ⌝ }
-    ensures written { λ _. ⌜ now (destination .exit) ≡ destinationOn (axisOf axis) readDoubleOn (now (source .entry)) (now (destination .entry)) ⌝ }
+    ensures answered { λ r. ⌜ r ≡ runOn (codedAxis axis) readDoubleOn (now (source .entry)) (now (destination .entry)) ⌝ }
+    ensures written { λ _. ⌜ now (destination .exit) ≡ destinationOn (codedAxis axis) readDoubleOn (now (source .entry)) (now (destination .entry)) ⌝ }
 {
     match codes::axis_of(axis) {
         CodedAxis::Refused(r) => return no_run(r),

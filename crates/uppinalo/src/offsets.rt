@@ -1,7 +1,7 @@
 // One offset on an axis.
 ghost use mathlib.Core.Path.{_≡_};
 ghost use Rattle.axis.specs.Axis.{readWholeOn, readDoubleOn, writeInstantOn, writeFieldsOn};
-ghost use Rattle.codes.specs.Codes.{axisOf};
+ghost use Rattle.codes.specs.Codes.{codedAxis};
 ghost use Rattle.uppinalo.specs.Offsets.{noReading, ofReading, noOffset, ofOffset, readOn, writeOn};
 use crate::texts::UppinaloReading;
 use axis_types::OffsetAnswer;
@@ -61,7 +61,7 @@ fn of_offset(a: OffsetAnswer) -> UppinaloOffsetAnswer
 // A whole offset read as an instant.
 #[no_mangle]
 pub extern "C" fn uppinalo_read_whole(axis: UppinaloAxis, offset: i64) -> UppinaloReading
-    ensures { λ r. ⌜ r ≡ readOn (axisOf axis) (λ a. readWholeOn a offset) ⌝ }
+    ensures { λ r. ⌜ r ≡ readOn (codedAxis axis) (λ a. readWholeOn a offset) ⌝ }
 {
     match codes::axis_of(axis) {
         CodedAxis::Refused(r) => return no_reading(r),
@@ -72,7 +72,7 @@ pub extern "C" fn uppinalo_read_whole(axis: UppinaloAxis, offset: i64) -> Uppina
 // A double read as an instant.
 #[no_mangle]
 pub extern "C" fn uppinalo_read_double(axis: UppinaloAxis, offset: f64) -> UppinaloReading
-    ensures { λ r. ⌜ r ≡ readOn (axisOf axis) (λ a. readDoubleOn a offset) ⌝ }
+    ensures { λ r. ⌜ r ≡ readOn (codedAxis axis) (λ a. readDoubleOn a offset) ⌝ }
 {
     match codes::axis_of(axis) {
         CodedAxis::Refused(r) => return no_reading(r),
@@ -83,7 +83,7 @@ pub extern "C" fn uppinalo_read_double(axis: UppinaloAxis, offset: f64) -> Uppin
 // The whole offset that reads as an instant.
 #[no_mangle]
 pub extern "C" fn uppinalo_write_instant(axis: UppinaloAxis, instant: i64) -> UppinaloOffsetAnswer
-    ensures { λ r. ⌜ r ≡ writeOn (axisOf axis) (λ a. writeInstantOn a instant) ⌝ }
+    ensures { λ r. ⌜ r ≡ writeOn (codedAxis axis) (λ a. writeInstantOn a instant) ⌝ }
 {
     match codes::axis_of(axis) {
         CodedAxis::Refused(r) => return no_offset(r),
@@ -94,7 +94,7 @@ pub extern "C" fn uppinalo_write_instant(axis: UppinaloAxis, instant: i64) -> Up
 // The whole offset that reads as the instant of fields.
 #[no_mangle]
 pub extern "C" fn uppinalo_write_fields(axis: UppinaloAxis, fields: Fields) -> UppinaloOffsetAnswer
-    ensures { λ r. ⌜ r ≡ writeOn (axisOf axis) (λ a. writeFieldsOn a fields) ⌝ }
+    ensures { λ r. ⌜ r ≡ writeOn (codedAxis axis) (λ a. writeFieldsOn a fields) ⌝ }
 {
     match codes::axis_of(axis) {
         CodedAxis::Refused(r) => return no_offset(r),

@@ -2,8 +2,8 @@
 ghost use mathlib.Core.Path.{_≡_};
 ghost use Rattle.iso_text.specs.Iso.{readIso};
 ghost use Rattle.axis_text.specs.Units.{readUnits};
-ghost use Rattle.codes.specs.Codes.{calendarOf};
-ghost use Rattle.uppinalo.specs.Texts.{noLength, ofLength, lengthIn, roomIn, ofInstant, noAxis, ofAxis};
+ghost use Rattle.codes.specs.Codes.{codedCalendar};
+ghost use Rattle.uppinalo.specs.Texts.{noLength, ofLength, lengthByCode, roomByCode, ofInstant, noAxis, ofAxis};
 use axis_text::AxisAnswer;
 use codes::CodedCalendar;
 use codes::UppinaloAxis;
@@ -115,8 +115,8 @@ pub extern "C" fn uppinalo_write_iso(
     instant: i64,
     room: &mut [u8],
 ) -> UppinaloLengthAnswer
-    ensures { λ r. ⌜ r ≡ lengthIn (calendarOf calendar) instant (now (room .entry)) ⌝ }
-    ensures { λ _. ⌜ now (room .exit) ≡ roomIn (calendarOf calendar) instant (now (room .entry)) ⌝ }
+    ensures { λ r. ⌜ r ≡ lengthByCode (codedCalendar calendar) instant (now (room .entry)) ⌝ }
+    ensures { λ _. ⌜ now (room .exit) ≡ roomByCode (codedCalendar calendar) instant (now (room .entry)) ⌝ }
 {
     match codes::calendar_of(calendar) {
         CodedCalendar::Unknown => return no_length(Refusal::UnknownCalendar),

@@ -21,7 +21,7 @@ use Rattle.instant.proofs.Days.{far-before, far-after}
 use Rattle.instant.proofs.Theorems.{shown, fields-of-instant}
 use Rattle.grammar.proofs.Tests.{clash}
 use Rattle.date_text.specs.declared.Zone.{Zone}
-use Rattle.date_text.specs.declared.Written.{Written}
+use Rattle.date_text.specs.declared.WrittenDate.{WrittenDate}
 use Rattle.written_instant.specs.Instants.{signedOf, zoneLength, ahead, ranged, lessZone}
 
 -- ---- sums and differences
@@ -96,7 +96,7 @@ local-range c f t h = shown c t f (fields-of-instant c f t h) .inside
 
 -- ---- a local instant less a zone
 
-abbrev pub withYear : ℤ → Written → Fields
+abbrev pub withYear : ℤ → WrittenDate → Fields
 withYear y w =
     record {
       year = y;

@@ -20,23 +20,23 @@ use Rattle.calendar.specs.declared.Calendar.{Calendar}
 use Rattle.calendar.specs.declared.DayAnswer.{DayAnswer}
 use Rattle.instant.specs.Instant.{dayLength, dateIn, isClock, clockTime, pickInstant, withClock, instantAnswer}
 use Rattle.instant.specs.declared.InstantAnswer.{InstantAnswer}
-use Rattle.date_text.specs.declared.Written.{Written}
-use Rattle.date_text.specs.DateRule.{date}
+use Rattle.date_text.specs.declared.WrittenDate.{WrittenDate}
+use Rattle.date_text.specs.DateRule.{dateRule}
 use Rattle.written_instant.specs.Instants.{signedOf, localFields, isZone, ahead, ranged, lessZone, writtenInstant}
 
 -- a date that is read has a year of at most four digits
-pub year-read : (s : List ℕ) (w : Written) → read date s ≡ some w → w .year ≤ 9999
+pub year-read : (s : List ℕ) (w : WrittenDate) → read dateRule s ≡ some w → w .year ≤ 9999
 unfolding Derives
-year-read s w e = go (derives date s w e)
+year-read s w e = go (derives dateRule s w e)
   where
-    go : Derives date s w → w .year ≤ 9999
+    go : Derives dateRule s w → w .year ≤ 9999
     go (a, (p, q, f, d, (p1, q1, g, n, m)), x) = let h = number-below 4 p1 (a .1 .0) n in rw x (omega arith)
 
 -- the date, the time and the zone exist
-abbrev pub existsWritten : Calendar → Written → Bool
+abbrev pub existsWritten : Calendar → WrittenDate → Bool
 existsWritten c w = (exists c (dateIn (localFields w)) && isClock (localFields w)) && isZone (w .time .zone)
 
-abbrev pub localInstant : Calendar → Written → ℤ
+abbrev pub localInstant : Calendar → WrittenDate → ℤ
 localInstant c w = dayNumber c (dateIn (localFields w)) *ℤ pos dayLength +ℤ pos (clockTime (localFields w))
 
 signed-in : (b : Bool) (n : ℕ) → n ≤ 9999 → inYears (signedOf b n) ≡ true
@@ -44,7 +44,7 @@ signed-in true zero h = refl
 signed-in true (suc n) h = rw (le-leb n 9998 (omega arith))
 signed-in false n h = le-leb n 9999 h
 
-pub written-order : (c : Calendar) (w : Written) → w .year ≤ 9999 → writtenInstant c w ≡ cond (existsWritten c w) (ranged c (localInstant c w -ℤ ahead (w .time .zone))) (InstantAnswer.Refused Refusal.NoSuchDate)
+pub written-order : (c : Calendar) (w : WrittenDate) → w .year ≤ 9999 → writtenInstant c w ≡ cond (existsWritten c w) (ranged c (localInstant c w -ℤ ahead (w .time .zone))) (InstantAnswer.Refused Refusal.NoSuchDate)
 unfolding writtenInstant instantAnswer dayAnswer
 written-order c w h = rw (signed-in (w .negative) (w .year) h) (go (exists c (dateIn (localFields w))))
   where

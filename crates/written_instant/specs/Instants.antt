@@ -10,14 +10,14 @@ use Rattle.instant.specs.Instant.{inRange, instantAnswer}
 use Rattle.instant.specs.declared.Fields.{Fields}
 use Rattle.instant.specs.declared.InstantAnswer.{InstantAnswer}
 use Rattle.date_text.specs.declared.Zone.{Zone}
-use Rattle.date_text.specs.declared.Written.{Written}
+use Rattle.date_text.specs.declared.WrittenDate.{WrittenDate}
 
 -- a number with or without a minus; -0 is 0
 abbrev pub signedOf : Bool → ℕ → ℤ
 signedOf true n = negℤ (pos n)
 signedOf false n = pos n
 
-abbrev pub localFields : Written → Fields
+abbrev pub localFields : WrittenDate → Fields
 localFields w =
     record {
       year = signedOf (w .negative) (w .year);
@@ -55,5 +55,5 @@ lessZone c z (InstantAnswer.Refused r) = InstantAnswer.Refused r
 
 -- `instantAnswer` refuses local fields that do not exist. (It refuses years past the range before that; a date that is read has a
 -- year of at most four digits: proofs/Order.antt.)
-unfoldable pub writtenInstant : Calendar → Written → InstantAnswer
+unfoldable pub writtenInstant : Calendar → WrittenDate → InstantAnswer
 writtenInstant c w = lessZone c (w .time .zone) (instantAnswer c (localFields w))

@@ -1,2 +1,1 @@
 pub mod Instants
-pub mod Texts

@@ -5,7 +5,7 @@ ghost use Rattle.instant.specs.Instant.{inRange};
 ghost use Rattle.instant.specs.declared.InstantAnswer.{InstantAnswer};
 ghost use Rattle.written_instant.specs.Instants.{signedOf, ranged, lessZone, writtenInstant};
 use calendar::Calendar;
-use date_text::Written;
+use date_text::WrittenDate;
 use date_text::Zone;
 use instant::Fields;
 use instant::FieldsAnswer;
@@ -55,7 +55,7 @@ fn less_zone(c: Calendar, z: Zone, t: i64) -> InstantAnswer
 }
 
 // The instant of a written date.
-pub fn written_instant(c: Calendar, w: Written) -> InstantAnswer
+pub fn written_instant(c: Calendar, w: WrittenDate) -> InstantAnswer
     ensures { λ r. ⌜ r ≡ writtenInstant c w ⌝ }
 {
     let t = w.time;

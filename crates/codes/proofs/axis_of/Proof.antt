@@ -3,7 +3,7 @@ use mathlib.Core.Path.{sym, _∙_}
 use mir.Syntax.{w64}
 use mir.Val.{SFits}
 use mir.ValLaws.{toZ-ofZ}
-use Rattle.codes.specs.Codes.{periodOf, modeOf, axisWith, axisOf}
+use Rattle.codes.specs.Codes.{codedPeriod, codedMode, axisWith, codedAxis}
 use Rattle.codes.specs.declared.CodedAxis.{CodedAxis}
 use borrow.Author.Needs.{needs}
 use Rattle.codes.proofs.axis_of.Statement.{statement}
@@ -19,11 +19,11 @@ enum-told : tie.Need-enum-told
 enum-told c = search needs
 
 returns : tie.Need-returns
-unfolding axisOf
+unfolding codedAxis
 returns c =
     let a = c .before .before .before .args .a in
     let k = sym (c .enum-told .given .1) ∙ c .before .before .calendar-of .ensures in
-    λ i. axisWith (k i) (periodOf (a .period)) (modeOf (a .mode)) a
+    λ i. axisWith (k i) (codedPeriod (a .period)) (codedMode (a .mode)) a
 
 period-of-requires : tie.Need-period-of-requires
 period-of-requires c κs = search needs
@@ -35,12 +35,12 @@ enum-told-2 : tie.Need-enum-told-2
 enum-told-2 c = search needs
 
 returns-2 : tie.Need-returns-2
-unfolding axisOf
+unfolding codedAxis
 returns-2 c =
     let a = c .before .before .before .before .before .before .before .args .a in
     let k = (sym (c .before .before .before .before .calendar .given .1) ∙ c .before .before .before .before .before .before .calendar-of .ensures) in
     let p = sym (c .enum-told2 .given .1) ∙ c .before .before .period-of .ensures in
-    λ i. axisWith (k i) (p i) (modeOf (a .mode)) a
+    λ i. axisWith (k i) (p i) (codedMode (a .mode)) a
 
 mode-of-requires : tie.Need-mode-of-requires
 mode-of-requires c κs = search needs
@@ -52,7 +52,7 @@ enum-told-3 : tie.Need-enum-told-3
 enum-told-3 c = search needs
 
 returns-3 : tie.Need-returns-3
-unfolding axisOf
+unfolding codedAxis
 returns-3 c =
     let a = c .before .before .before .before .before .before .before .before .before .before .before .args .a in
     let k = (sym (c .before .before .before .before .before .before .before .before .calendar .given .1) ∙ c .before .before .before .before .before .before .before .before .before .before .calendar-of .ensures) in
@@ -61,7 +61,7 @@ returns-3 c =
     λ i. axisWith (k i) (p i) (m i) a
 
 returns-4 : tie.Need-returns-4
-unfolding axisOf
+unfolding codedAxis
 returns-4 c =
     let a = c .before .before .before .before .before .before .before .before .before .before .before .before .before .args .a in
     let f : SFits w64 (a .reference) = search needs in

@@ -1,27 +1,27 @@
 -- `codes::calendar_of` meets its contract. Assumes nothing.
 use mathlib.Core.Path.{sym, ap}
-use Rattle.codes.specs.Codes.{calendarOf}
+use Rattle.codes.specs.Codes.{codedCalendar}
 use Rattle.codes.proofs.Unknown.{unknown-calendar}
 use Rattle.codes.proofs.calendar_of.Statement.{statement}
 use Rattle.codes.proofs.calendar_of.Tie as tie
 
 returns : tie.Need-returns
-returns c = ap calendarOf (sym (c .if1 .taken))
+returns c = ap codedCalendar (sym (c .if1 .taken))
 
 returns-2 : tie.Need-returns-2
-returns-2 c = ap calendarOf (sym (c .if2 .taken))
+returns-2 c = ap codedCalendar (sym (c .if2 .taken))
 
 returns-3 : tie.Need-returns-3
-returns-3 c = ap calendarOf (sym (c .if3 .taken))
+returns-3 c = ap codedCalendar (sym (c .if3 .taken))
 
 returns-4 : tie.Need-returns-4
-returns-4 c = ap calendarOf (sym (c .if4 .taken))
+returns-4 c = ap codedCalendar (sym (c .if4 .taken))
 
 returns-5 : tie.Need-returns-5
-returns-5 c = ap calendarOf (sym (c .if5 .taken))
+returns-5 c = ap codedCalendar (sym (c .if5 .taken))
 
 returns-6 : tie.Need-returns-6
-returns-6 c = ap calendarOf (sym (c .if6 .taken))
+returns-6 c = ap codedCalendar (sym (c .if6 .taken))
 
 returns-7 : tie.Need-returns-7
 returns-7 c =

@@ -12,7 +12,7 @@ use Rattle.grammar.specs.Reader.{paired, given, scan, found}
 use Rattle.grammar.specs.Rules.{anyOf}
 use Rattle.grammar.proofs.Places.{starts-lt}
 use Rattle.date_text.specs.Answers.{zoneIn, minuteIn}
-use Rattle.date_text.specs.DateRule.{timeOf, timePart}
+use Rattle.date_text.specs.DateRule.{timeParts, timePart}
 use Rattle.date_text.specs.declared.Time.{Time}
 use Rattle.date_text.specs.declared.ZoneAt.{ZoneAt}
 use Rattle.date_text.proofs.Steps.{time-none, time-no, time-half, time-is}
@@ -74,7 +74,7 @@ time : (z : tie.After-zone-part) (o : ZoneAt) → z .zone-part .result ≡ o
     → let k = z .before .before in
     let h = k .before .before .before .before in
     let a = h .before .before .before .before .before .before .before .args in
-    scan timePart (drop (a .at) (a .s .now)) ≡ given timeOf (paired (h .hour .given .0 .0) (paired (k .minute .given .0 .0, (k .minute .given .0 .1 .0, k .minute .given .0 .1 .1 .0)) (zoneIn (a .s .now) o)))
+    scan timePart (drop (a .at) (a .s .now)) ≡ given timeParts (paired (h .hour .given .0 .0) (paired (k .minute .given .0 .0, (k .minute .given .0 .1 .0, k .minute .given .0 .1 .1 .0)) (zoneIn (a .s .now) o)))
 time z o e =
     let k = z .before .before in
     let m = k .before .before in

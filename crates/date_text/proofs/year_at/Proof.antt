@@ -7,7 +7,7 @@ use Rattle.grammar.specs.Grammar.{_▸_}
 use Rattle.grammar.specs.Reader.{paired, given, scan}
 use Rattle.grammar.specs.Rules.{number}
 use Rattle.date_text.specs.Answers.{monthIn}
-use Rattle.date_text.specs.DateRule.{monthPart, writtenOf}
+use Rattle.date_text.specs.DateRule.{monthPart, dateParts}
 use Rattle.date_text.specs.declared.MonthAt.{MonthAt}
 use Rattle.date_text.proofs.Steps.{year-no, year-is}
 use Rattle.date_text.proofs.year_at.Statement.{statement}
@@ -29,7 +29,7 @@ returns c = let n = c .before .before in year-no _ _ (n .number-at .ensures ∙ 
 dated : (m : tie.After-month-part) (o : MonthAt) → m .month-part .result ≡ o
     → let y = m .before .before in
     let a = y .before .before .before .before .args in
-    given writtenOf (paired (a .negative) (scan (number 4 ▸ monthPart) (drop (a .at) (a .s .now)))) ≡ given writtenOf (paired (a .negative) (paired (y .year .given .0 .0) (monthIn (a .s .now) o)))
+    given dateParts (paired (a .negative) (scan (number 4 ▸ monthPart) (drop (a .at) (a .s .now)))) ≡ given dateParts (paired (a .negative) (paired (y .year .given .0 .0) (monthIn (a .s .now) o)))
 dated m o e =
     let y = m .before .before in
     let n = y .before .before in

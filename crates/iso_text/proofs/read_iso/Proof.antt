@@ -1,42 +1,42 @@
 -- `iso_text::read_iso` meets its contract: each test settles one refusal, in their order.
 use borrow.Author.Needs.{needs}
-use mathlib.Core.Path.{_≡_, ap, _∙_}
-use Rattle.calendar_name.specs.Names.{calendarOf}
-use Rattle.date_text.specs.DateRule.{date}
-use Rattle.grammar.specs.Reader.{read}
-use Rattle.calendar_name.proofs.Laws.{calendarIn, named-back}
+use mathlib.Core.Path.{_≡_, sym, ap, _∙_}
+use Rattle.date_text.specs.DateRule.{dateRule}
 use Rattle.date_text.proofs.Texts.{writtenValue, written-back}
-use Rattle.written_instant.proofs.Texts.{text-long, name-unknown, text-read}
+use Rattle.date_text.specs.declared.WrittenAnswer.{WrittenAnswer}
+use Rattle.instant.specs.declared.InstantAnswer.{InstantAnswer}
+use Rattle.written_instant.specs.Instants.{writtenInstant}
+use Rattle.named_text.specs.Texts.{byValue}
+use Rattle.named_text.proofs.Laws.{text-refused, text-read}
 use Rattle.iso_text.specs.Iso.{readIso}
 use Rattle.iso_text.proofs.read_iso.Statement.{statement}
 use Rattle.iso_text.proofs.read_iso.Tie as tie
 
--- what the calls say of the name and of the text
-calendar : (k : tie.After-calendar-of) → calendarOf (k .before .before .before .before .args .name .now) ≡ calendarIn (k .calendar-of .result)
-calendar k = named-back (calendarOf (k .before .before .before .before .args .name .now)) (k .calendar-of .result) (k .calendar-of .ensures)
+-- what the call says of the text, in its calendar
+module _ (d : tie.After-read-date) where
+  abbrev k : tie.After-text-calendar
+  k = d .before .before .before .before
 
-written : (d : tie.After-read-date) → read date (d .before .before .before .before .before .before .before .before .args .text .now) ≡ writtenValue (d .read-date .result)
-written d = written-back (read date (d .before .before .before .before .before .before .before .before .args .text .now)) (d .read-date .result) (d .read-date .ensures)
+  read : (o : WrittenAnswer) → d .read-date .result ≡ o → byValue InstantAnswer.Refused (writtenInstant (d .before .before .c .given .0 .0)) (writtenValue o) ≡ readIso (k .before .before .before .args .name .now) (k .before .before .before .args .text .now)
+  unfolding readIso
+  read o e =
+      text-read InstantAnswer.Refused dateRule writtenInstant _ _ _ _ (sym (d .before .before .c .given .1) ∙ k .text-calendar .ensures)
+      (written-back _ (d .read-date .result) (d .read-date .ensures) ∙ ap writtenValue e)
+
+text-calendar-requires : tie.Need-text-calendar-requires
+text-calendar-requires c κs = search needs
+
+enum-known-r : tie.Need-enum-known-r
+enum-known-r c = search needs
 
 returns : tie.Need-returns
 unfolding readIso
-returns c = let a = c .before .before .before .args in text-long _ _ _ (a .name .now) (a .text .now) (c .if1 .taken)
-
-calendar-of-requires : tie.Need-calendar-of-requires
-calendar-of-requires c κs = search needs
+returns c =
+    let k = c .before .before .before in
+    text-refused InstantAnswer.Refused dateRule writtenInstant (k .before .before .before .args .name .now) (k .before .before .before .args .text .now) _ (sym (c .before .r .given .1) ∙ k .text-calendar .ensures)
 
 enum-known-c : tie.Need-enum-known-c
 enum-known-c c = search needs
-
-enum-told : tie.Need-enum-told
-enum-told c = search needs
-
-returns-2 : tie.Need-returns-2
-unfolding readIso
-returns-2 c =
-    let k = c .before .before in
-    let a = k .before .before .before .before .args in
-    name-unknown _ _ _ (a .name .now) (a .text .now) (k .before .if1 .left) (calendar k ∙ ap calendarIn (c .enum-told .given .1))
 
 read-date-requires : tie.Need-read-date-requires
 read-date-requires c κs = search needs
@@ -44,44 +44,29 @@ read-date-requires c κs = search needs
 enum-known-w : tie.Need-enum-known-w
 enum-known-w c = search needs
 
-enum-told-2 : tie.Need-enum-told-2
-enum-told-2 c = search needs
+enum-told : tie.Need-enum-told
+enum-told c = search needs
 
-returns-3 : tie.Need-returns-3
-unfolding readIso
-returns-3 c =
-    let d = c .before .before in
-    let n = d .before .before in
-    let k = n .before .before in
-    let a = k .before .before .before .before .args in
-    text-read _ _ _ (a .name .now) (a .text .now) (k .before .if1 .left) _ _ (calendar k ∙ ap calendarIn (n .c .given .1)) (written d ∙ ap writtenValue (c .enum-told2 .given .1))
+returns-2 : tie.Need-returns-2
+returns-2 c = read (c .before .before) _ (c .enum-told .given .1)
 
 written-instant-requires : tie.Need-written-instant-requires
 written-instant-requires c κs = search needs
 
-returns-4 : tie.Need-returns-4
-unfolding readIso
-returns-4 c =
-    let w = c .before .before in
-    let d = w .before .before in
-    let n = d .before .before in
-    let k = n .before .before in
-    let a = k .before .before .before .before .args in
-    c .written-instant .ensures
-    ∙ text-read _ _ _ (a .name .now) (a .text .now) (k .before .if1 .left) _ _ (calendar k ∙ ap calendarIn (n .c .given .1)) (written d ∙ ap writtenValue (w .w .given .1))
+returns-3 : tie.Need-returns-3
+returns-3 c = let w = c .before .before in c .written-instant .ensures ∙ read (w .before .before) _ (w .w .given .1)
 
 pub read-iso-spec : {M : Type 1} → statement M
 read-iso-spec =
     tie.close
     (tie.spec
+    text-calendar-requires
+    enum-known-r
     returns
-    calendar-of-requires
     enum-known-c
-    enum-told
-    returns-2
     read-date-requires
     enum-known-w
-    enum-told-2
-    returns-3
+    enum-told
+    returns-2
     written-instant-requires
-    returns-4)
+    returns-3)

@@ -7,11 +7,11 @@ use mir.ValLaws.{toZ-ofZ}
 use mir.Syntax.{w64}
 use mir.ValLaws.{toZ-ofZ}
 use mir.Syntax.{w64}
-use Rattle.date_text.specs.declared.Written.{Written}
+use Rattle.date_text.specs.declared.WrittenDate.{WrittenDate}
 use Rattle.instant.specs.Instant.{fieldsAnswer}
 use Rattle.instant.specs.declared.FieldsAnswer.{FieldsAnswer}
 use Rattle.iso_form.specs.Form.{isoText, lengthAnswer, over}
-use Rattle.iso_text.specs.Iso.{lengthOf, roomOf, writeIso, roomIso}
+use Rattle.iso_text.specs.Iso.{isoLength, isoRoom, writeIso, roomIso}
 use Rattle.iso_text.proofs.Laws.{fields-year}
 use Rattle.iso_text.proofs.write_iso.Statement.{statement}
 use Rattle.iso_text.proofs.write_iso.Tie as tie
@@ -32,7 +32,7 @@ returns c =
     let a = c .before .before .before in
     let st = a .before .before in
     let e = sym (c .before .r .given .1) ∙ answer a in
-    (ap (λ (o : FieldsAnswer). lengthOf o (st .args .room .now)) e, ap (λ (o : FieldsAnswer). roomOf o (st .args .room .now)) e)
+    (ap (λ (o : FieldsAnswer). isoLength o (st .args .room .now)) e, ap (λ (o : FieldsAnswer). isoRoom o (st .args .room .now)) e)
 
 enum-known-f : tie.Need-enum-known-f
 enum-known-f c = search needs
@@ -57,8 +57,8 @@ returns-2 c =
     let st = a .before .before in
     let e = sym (w .before .before .f .given .1) ∙ answer a in
     let room = st .args .room .now in (
-      c .before .before .write-form .ensures .0 ∙ (ap (λ (v : Written). lengthAnswer (isoText v) room) (w .written-of .ensures) ∙ ap (λ (o : FieldsAnswer). lengthOf o room) e),
-      c .before .before .write-form .ensures .1 ∙ (ap (λ (v : Written). over (isoText v) room) (w .written-of .ensures) ∙ ap (λ (o : FieldsAnswer). roomOf o room) e),
+      c .before .before .write-form .ensures .0 ∙ (ap (λ (v : WrittenDate). lengthAnswer (isoText v) room) (w .written-of .ensures) ∙ ap (λ (o : FieldsAnswer). isoLength o room) e),
+      c .before .before .write-form .ensures .1 ∙ (ap (λ (v : WrittenDate). over (isoText v) room) (w .written-of .ensures) ∙ ap (λ (o : FieldsAnswer). isoRoom o room) e),
     )
 
 pub write-iso-spec : {M : Type 1} → statement M

@@ -4,7 +4,7 @@ use mathlib.Core.Path.{sym, ap, _∙_}
 use lib.IntN.{ℤ}
 use mir.Syntax.{w64}
 use mir.ValLaws.{toZ-ofZ}
-use Rattle.listing_line.specs.Line.{ofReading}
+use Rattle.listing_line.specs.Line.{lineReading}
 use Rattle.listing_line.specs.declared.LineAnswer.{LineAnswer}
 use Rattle.listing_line.proofs.of_reading.Statement.{statement}
 use Rattle.listing_line.proofs.of_reading.Tie as tie
@@ -17,13 +17,13 @@ returns c =
     let k = c .before .r in
     let a = c .before .before .before .args in
     ap (λ (z : ℤ). LineAnswer.Shows (a .c) z (k .given .0 .1 .0)) (toZ-ofZ w64 (k .given .0 .0) (record { sfits = c .known-told .given .0 .1 }))
-    ∙ sym (ap (ofReading (a .c)) (k .given .1))
+    ∙ sym (ap (lineReading (a .c)) (k .given .1))
 
 enum-known-r-2 : tie.Need-enum-known-r-2
 enum-known-r-2 c = search needs
 
 returns-2 : tie.Need-returns-2
-returns-2 c = sym (ap (ofReading (c .before .before .before .args .c)) (c .before .r2 .given .1))
+returns-2 c = sym (ap (lineReading (c .before .before .before .args .c)) (c .before .r2 .given .1))
 
 pub of-reading-spec : {M : Type 1} → statement M
 of-reading-spec = tie.close (tie.spec enum-known-r returns enum-known-r-2 returns-2)

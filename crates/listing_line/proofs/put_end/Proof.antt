@@ -4,7 +4,7 @@ use mathlib.Core.Path.{_≡_, sym, ap, _∙_}
 use mathlib.Core.Bool.{Bool, true, false}
 use mathlib.Core.List.{_++_}
 use Rattle.iso_form.specs.Form.{over}
-use Rattle.listing_line.specs.Line.{rounded, newline, lengthIn}
+use Rattle.listing_line.specs.Line.{roundedText, newline, lengthIn}
 use Rattle.listing_line.proofs.put_end.Statement.{statement}
 use Rattle.listing_line.proofs.put_end.Tie as tie
 
@@ -22,7 +22,7 @@ returns c =
     let p = c .before .before in
     let a = c .before .before .before .before .before .before .before .args in
     let e : true ≡ a .exact = sym (c .before .before .before .before .before .if1 .taken) in
-    (p .put .ensures .0 ∙ ap (λ (b : Bool). lengthIn (rounded b ++ newline) (a .room .now)) e, p .put .ensures .1 ∙ ap (λ (b : Bool). over (rounded b ++ newline) (a .room .now)) e)
+    (p .put .ensures .0 ∙ ap (λ (b : Bool). lengthIn (roundedText b ++ newline) (a .room .now)) e, p .put .ensures .1 ∙ ap (λ (b : Bool). over (roundedText b ++ newline) (a .room .now)) e)
 
 slice-aggregate-put-2 : tie.Need-slice-aggregate-put-2
 slice-aggregate-put-2 c = search needs
@@ -38,7 +38,7 @@ returns-2 c =
     let p = c .before .before in
     let a = c .before .before .before .before .before .before .before .args in
     let e : false ≡ a .exact = sym (c .before .before .before .before .before .if1 .left) in
-    (p .put2 .ensures .0 ∙ ap (λ (b : Bool). lengthIn (rounded b ++ newline) (a .room .now)) e, p .put2 .ensures .1 ∙ ap (λ (b : Bool). over (rounded b ++ newline) (a .room .now)) e)
+    (p .put2 .ensures .0 ∙ ap (λ (b : Bool). lengthIn (roundedText b ++ newline) (a .room .now)) e, p .put2 .ensures .1 ∙ ap (λ (b : Bool). over (roundedText b ++ newline) (a .room .now)) e)
 
 pub put-end-spec : {M : Type 1} → statement M
 put-end-spec =

@@ -11,7 +11,7 @@ use mir.ValLaws.{toZ-ofZ}
 use Rattle.iso_form.specs.Form.{over}
 use Rattle.iso_form.specs.declared.LengthAnswer.{LengthAnswer}
 use Rattle.iso_text.specs.Iso.{textOf, writeIso, roomIso}
-use Rattle.listing_line.specs.Line.{fieldsIn, rounded, newline}
+use Rattle.listing_line.specs.Line.{fieldsIn, roundedText, newline}
 use Rattle.listing_line.proofs.Instants.{shown-length, written-length, written-room}
 use Rattle.listing_line.proofs.Rooms.{put-after, length-after}
 use Rattle.listing_line.proofs.put_instant.Statement.{statement}
@@ -28,7 +28,7 @@ module _ (w : tie.After-write-iso) where
   iso = textOf (fieldsIn (start .args .c) (start .args .t))
 
   abbrev end : List ℕ
-  end = rounded (start .args .exact) ++ newline
+  end = roundedText (start .args .exact) ++ newline
 
   abbrev room : List ℕ
   room = start .args .room .now
@@ -121,7 +121,7 @@ returns-2 c =
     let p = c .before .before in
     let k = p .before .before .before in
     let w = writing k in
-    let e = sym (append-assoc (textOf (fieldsIn (start w .args .c) (start w .args .t))) (rounded (start w .args .exact)) newline) in (
+    let e = sym (append-assoc (textOf (fieldsIn (start w .args .c) (start w .args .t))) (roundedText (start w .args .exact)) newline) in (
       sum p ∙ ap length e,
       put-after (iso w) (end w) (room w) (filled w) (p .put-end .last .1 .0) (k .n .given .0 .0) (count k) (filled-is w) (fits w) (p .put-end .ensures .1) ∙ ap (λ (t : List ℕ). over t (room w)) e,
     )

@@ -12,7 +12,7 @@ use mir.ValLaws.{toZ-ofZ}
 use Rattle.iso_form.specs.Form.{over}
 use Rattle.iso_text.specs.Iso.{textOf}
 use Rattle.listing_line.specs.declared.LineAnswer.{LineAnswer}
-use Rattle.listing_line.specs.Line.{fieldsIn, rounded, answerText, newline, lengthIn}
+use Rattle.listing_line.specs.Line.{fieldsIn, roundedText, answerText, newline, lengthIn}
 use Rattle.listing_line.proofs.Instants.{shown-length}
 use Rattle.listing_line.proofs.Rooms.{taken, reaches}
 use Rattle.listing_line.proofs.put_shown.Statement.{statement}
@@ -37,7 +37,7 @@ module _ (p : tie.After-put-instant) where
   count = p .put-instant .ensures .0 ∙ ap length same
 
   short : length text ≤ 37
-  short = omega (arith, ap length (append-assoc (textOf (fieldsIn (start .args .c) (start .args .t))) (rounded (start .args .exact)) newline), shown-length (start .args .c) (start .args .t) (start .args .exact))
+  short = omega (arith, ap length (append-assoc (textOf (fieldsIn (start .args .c) (start .args .t))) (roundedText (start .args .exact)) newline), shown-length (start .args .c) (start .args .t) (start .args .exact))
 
   made-is : made ≡ over text (replicate 37 0)
   made-is = p .put-instant .ensures .1 ∙ ap (λ (t : List ℕ). over t (replicate 37 0)) same

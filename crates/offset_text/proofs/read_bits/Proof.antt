@@ -7,7 +7,7 @@ use lib.ListN.{length}
 use lib.Ieee.{Float}
 use Rattle.axis_types.specs.declared.Offset.{Offset}
 use Rattle.offset_text.specs.OffsetRule.{offsetAnswer}
-use Rattle.offset_text.specs.Closed.{numberIn}
+use Rattle.offset_text.specs.Closed.{digitsIn}
 use Rattle.offset_text.specs.declared.OffsetText.{OffsetText}
 use Rattle.offset_text.proofs.Rule.{bits-other, bits-read}
 use Rattle.offset_text.proofs.read_bits.Statement.{statement}
@@ -30,7 +30,7 @@ enum-told c = search needs
 returns-2 : tie.Need-returns-2
 returns-2 c =
     let d = c .before .before in
-    sym (ap offsetAnswer (bits-read _ (d .before .before .before .args .s .now) (d .before .if1 .left) (d .number-to .ensures ∙ ap numberIn (c .enum-told .given .1))))
+    sym (ap offsetAnswer (bits-read _ (d .before .before .before .args .s .now) (d .before .if1 .left) (d .number-to .ensures ∙ ap digitsIn (c .enum-told .given .1))))
 
 double-of-requires : tie.Need-double-of-requires
 double-of-requires c κs = search needs
@@ -40,7 +40,7 @@ returns-3 c =
     let k = c .before .before in
     let d = k .before .before in
     ap (λ (x : Float). OffsetText.Read (Offset.Double x)) (c .double-of .ensures)
-    ∙ sym (ap offsetAnswer (bits-read _ (d .before .before .before .args .s .now) (d .before .if1 .left) (d .number-to .ensures ∙ ap numberIn (k .n .given .1))))
+    ∙ sym (ap offsetAnswer (bits-read _ (d .before .before .before .args .s .now) (d .before .if1 .left) (d .number-to .ensures ∙ ap digitsIn (k .n .given .1))))
 
 pub read-bits-spec : {M : Type 1} → statement M
 read-bits-spec =

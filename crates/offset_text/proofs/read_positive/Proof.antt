@@ -11,7 +11,7 @@ use Rattle.axis_types.specs.declared.Offset.{Offset}
 use lib.IntN.{ℤ, pos}
 use Rattle.signed.proofs.Differences.{sub-high}
 use Rattle.offset_text.specs.OffsetRule.{offsetAnswer}
-use Rattle.offset_text.specs.Closed.{numberIn}
+use Rattle.offset_text.specs.Closed.{digitsIn}
 use Rattle.offset_text.specs.declared.Number.{Number}
 use Rattle.offset_text.specs.declared.OffsetText.{OffsetText}
 use Rattle.offset_text.proofs.Rule.{whole-none, whole-large, whole-is}
@@ -19,8 +19,8 @@ use Rattle.offset_text.proofs.read_positive.Statement.{statement}
 use Rattle.offset_text.proofs.read_positive.Tie as tie
 
 -- what the digits write
-found : (d : tie.After-decimal-of) {r : Number} → d .decimal-of .result ≡ r → read (number 19) (d .before .before .args .s .now) ≡ numberIn r
-found d e = d .decimal-of .ensures ∙ ap numberIn e
+found : (d : tie.After-decimal-of) {r : Number} → d .decimal-of .result ≡ r → read (number 19) (d .before .before .args .s .now) ≡ digitsIn r
+found d e = d .decimal-of .ensures ∙ ap digitsIn e
 
 decimal-of-requires : tie.Need-decimal-of-requires
 decimal-of-requires c κs = search needs

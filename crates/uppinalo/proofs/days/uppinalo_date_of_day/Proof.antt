@@ -1,6 +1,6 @@
 -- `uppinalo::days::uppinalo_date_of_day` meets its contract. Assumes nothing.
 use mathlib.Core.Path.{sym, ap, _∙_}
-use Rattle.uppinalo.specs.Days.{dateIn, ofDate}
+use Rattle.uppinalo.specs.Days.{dateByCode, ofDate}
 use Rattle.codes.specs.declared.CodedCalendar.{CodedCalendar}
 use lib.IntN.{ℤ}
 use mir.Syntax.{w64}
@@ -21,7 +21,7 @@ no-date-requires c κs = search needs
 returns : tie.Need-returns
 returns c =
     let k = c .before .before .before in
-    c .no-date .ensures ∙ ap (λ (x : CodedCalendar). dateIn x (k .before .args .day)) (sym (c .before .enum-told .given .1) ∙ k .calendar-of .ensures)
+    c .no-date .ensures ∙ ap (λ (x : CodedCalendar). dateByCode x (k .before .args .day)) (sym (c .before .enum-told .given .1) ∙ k .calendar-of .ensures)
 
 enum-known-c : tie.Need-enum-known-c
 enum-known-c c = search needs
@@ -38,7 +38,7 @@ returns-2 c =
     let k = v .c .given .0 .0 in
     let o = v .before .before in
     let s = o .before in
-    c .of-date .ensures ∙ (ap ofDate (c .before .date-of-day .ensures) ∙ (ap (λ (n : ℤ). dateIn (CodedCalendar.Is k) n) (toZ-ofZ w64 (s .args .day) (s .fits .day)) ∙ ap (λ (x : CodedCalendar). dateIn x (s .args .day)) (sym (v .c .given .1) ∙ o .calendar-of .ensures)))
+    c .of-date .ensures ∙ (ap ofDate (c .before .date-of-day .ensures) ∙ (ap (λ (n : ℤ). dateByCode (CodedCalendar.Is k) n) (toZ-ofZ w64 (s .args .day) (s .fits .day)) ∙ ap (λ (x : CodedCalendar). dateByCode x (s .args .day)) (sym (v .c .given .1) ∙ o .calendar-of .ensures)))
 
 pub uppinalo-date-of-day-spec : {M : Type 1} → statement M
 uppinalo-date-of-day-spec =

@@ -1,6 +1,6 @@
 -- `uppinalo::days::uppinalo_day_of_date` meets its contract. Assumes nothing.
 use mathlib.Core.Path.{sym, ap, _∙_}
-use Rattle.uppinalo.specs.Days.{dayIn, ofDay}
+use Rattle.uppinalo.specs.Days.{dayByCode, ofDay}
 use Rattle.codes.specs.declared.CodedCalendar.{CodedCalendar}
 use borrow.Author.Needs.{needs}
 use Rattle.uppinalo.proofs.days.uppinalo_day_of_date.Statement.{statement}
@@ -18,7 +18,7 @@ no-day-requires c κs = search needs
 returns : tie.Need-returns
 returns c =
     let k = c .before .before .before in
-    c .no-day .ensures ∙ ap (λ (x : CodedCalendar). dayIn x (k .before .args .date)) (sym (c .before .enum-told .given .1) ∙ k .calendar-of .ensures)
+    c .no-day .ensures ∙ ap (λ (x : CodedCalendar). dayByCode x (k .before .args .date)) (sym (c .before .enum-told .given .1) ∙ k .calendar-of .ensures)
 
 enum-known-c : tie.Need-enum-known-c
 enum-known-c c = search needs
@@ -35,7 +35,7 @@ returns-2 c =
     let k = v .c .given .0 .0 in
     let o = v .before .before in
     let s = o .before in
-    c .of-day .ensures ∙ (ap ofDay (c .before .day-of-date .ensures) ∙ (ap (λ (x : CodedCalendar). dayIn x (s .args .date)) (sym (v .c .given .1) ∙ o .calendar-of .ensures)))
+    c .of-day .ensures ∙ (ap ofDay (c .before .day-of-date .ensures) ∙ (ap (λ (x : CodedCalendar). dayByCode x (s .args .date)) (sym (v .c .given .1) ∙ o .calendar-of .ensures)))
 
 pub uppinalo-day-of-date-spec : {M : Type 1} → statement M
 uppinalo-day-of-date-spec =

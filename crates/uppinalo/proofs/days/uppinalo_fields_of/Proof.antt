@@ -1,6 +1,6 @@
 -- `uppinalo::days::uppinalo_fields_of` meets its contract. Assumes nothing.
 use mathlib.Core.Path.{sym, ap, _∙_}
-use Rattle.uppinalo.specs.Days.{fieldsIn, ofFields}
+use Rattle.uppinalo.specs.Days.{fieldsByCode, ofFields}
 use Rattle.codes.specs.declared.CodedCalendar.{CodedCalendar}
 use lib.IntN.{ℤ}
 use mir.Syntax.{w64}
@@ -21,7 +21,7 @@ no-fields-requires c κs = search needs
 returns : tie.Need-returns
 returns c =
     let k = c .before .before .before in
-    c .no-fields .ensures ∙ ap (λ (x : CodedCalendar). fieldsIn x (k .before .args .instant)) (sym (c .before .enum-told .given .1) ∙ k .calendar-of .ensures)
+    c .no-fields .ensures ∙ ap (λ (x : CodedCalendar). fieldsByCode x (k .before .args .instant)) (sym (c .before .enum-told .given .1) ∙ k .calendar-of .ensures)
 
 enum-known-c : tie.Need-enum-known-c
 enum-known-c c = search needs
@@ -38,7 +38,7 @@ returns-2 c =
     let k = v .c .given .0 .0 in
     let o = v .before .before in
     let s = o .before in
-    c .of-fields .ensures ∙ (ap ofFields (c .before .fields-of .ensures) ∙ (ap (λ (n : ℤ). fieldsIn (CodedCalendar.Is k) n) (toZ-ofZ w64 (s .args .instant) (s .fits .instant)) ∙ ap (λ (x : CodedCalendar). fieldsIn x (s .args .instant)) (sym (v .c .given .1) ∙ o .calendar-of .ensures)))
+    c .of-fields .ensures ∙ (ap ofFields (c .before .fields-of .ensures) ∙ (ap (λ (n : ℤ). fieldsByCode (CodedCalendar.Is k) n) (toZ-ofZ w64 (s .args .instant) (s .fits .instant)) ∙ ap (λ (x : CodedCalendar). fieldsByCode x (s .args .instant)) (sym (v .c .given .1) ∙ o .calendar-of .ensures)))
 
 pub uppinalo-fields-of-spec : {M : Type 1} → statement M
 uppinalo-fields-of-spec =

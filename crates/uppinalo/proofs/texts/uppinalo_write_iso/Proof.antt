@@ -4,7 +4,7 @@ use lib.IntN.{ℤ}
 use mir.Syntax.{w64}
 use mir.ValLaws.{toZ-ofZ}
 use Rattle.iso_text.specs.Iso.{writeIso, roomIso}
-use Rattle.uppinalo.specs.Texts.{ofLength, lengthIn, roomIn}
+use Rattle.uppinalo.specs.Texts.{ofLength, lengthByCode, roomByCode}
 use Rattle.codes.specs.declared.CodedCalendar.{CodedCalendar}
 use borrow.Author.Needs.{needs}
 use Rattle.uppinalo.proofs.texts.uppinalo_write_iso.Statement.{statement}
@@ -23,7 +23,7 @@ returns : tie.Need-returns
 returns c =
     let a = c .before .before .before .before .before .args in
     let k = sym (c .before .enum-told .given .1) ∙ c .before .before .before .calendar-of .ensures in
-    (c .no-length .ensures ∙ ap (λ (x : CodedCalendar). lengthIn x (a .instant) (a .room .now)) k, ap (λ (x : CodedCalendar). roomIn x (a .instant) (a .room .now)) k)
+    (c .no-length .ensures ∙ ap (λ (x : CodedCalendar). lengthByCode x (a .instant) (a .room .now)) k, ap (λ (x : CodedCalendar). roomByCode x (a .instant) (a .room .now)) k)
 
 enum-known-c : tie.Need-enum-known-c
 enum-known-c c = search needs
@@ -44,8 +44,8 @@ returns-2 c =
     let w = c .before .before .before .write-iso in
     let k = sym (c .before .before .before .before .before .before .c .given .1) ∙ c .before .before .before .before .before .before .before .before .calendar-of .ensures in
     let t = toZ-ofZ w64 (a .instant) (s .fits .instant) in (
-      c .of-length .ensures ∙ (ap ofLength (w .ensures .0 ∙ ap (λ (z : ℤ). writeIso (c .before .before .before .before .before .before .c .given .0 .0) z (a .room .now)) t) ∙ ap (λ (x : CodedCalendar). lengthIn x (a .instant) (a .room .now)) k),
-      w .ensures .1 ∙ (ap (λ (z : ℤ). roomIso (c .before .before .before .before .before .before .c .given .0 .0) z (a .room .now)) t ∙ ap (λ (x : CodedCalendar). roomIn x (a .instant) (a .room .now)) k),
+      c .of-length .ensures ∙ (ap ofLength (w .ensures .0 ∙ ap (λ (z : ℤ). writeIso (c .before .before .before .before .before .before .c .given .0 .0) z (a .room .now)) t) ∙ ap (λ (x : CodedCalendar). lengthByCode x (a .instant) (a .room .now)) k),
+      w .ensures .1 ∙ (ap (λ (z : ℤ). roomIso (c .before .before .before .before .before .before .c .given .0 .0) z (a .room .now)) t ∙ ap (λ (x : CodedCalendar). roomByCode x (a .instant) (a .room .now)) k),
     )
 
 pub uppinalo-write-iso-spec : {M : Type 1} → statement M
