@@ -1,4 +1,2 @@
-pub mod Moving
-pub mod Stepping
-pub mod Between
+pub mod Laws
 pub mod Demands
