@@ -55,7 +55,7 @@ numbered c t h = record { inside = h; there = dates-exist c (dayOf t) }
 
 -- a date with a time of day is read where it lies in the years, and refused as past them elsewhere
 module _ (c : Calendar) (d : Date) (there : exists c d ≡ true) (s : ℕ) where
-  pub day-read : inYears (d .year) ≡ true → (v : ℤ) × (onDay (dayAnswer c d) s ≡ Reading.At v true)
+  day-read : inYears (d .year) ≡ true → (v : ℤ) × (onDay (dayAnswer c d) s ≡ Reading.At v true)
   day-read h = (dayNumber c d *ℤ pos 86400000000 +ℤ pos s, ap (λ (a : DayAnswer). onDay a s) (sym (date-there c d (dayNumber c d) h there (date-of-number c d h there))))
 
   day-past : inYears (d .year) ≡ false → onDay (dayAnswer c d) s ≡ Reading.Refused OutOfRange
@@ -80,8 +80,8 @@ module _ (part : Part) (c : Calendar) (R : ℤ) where
   abbrev date : ℤ → Date
   date n = dateAfter part c n (dateAt c R)
 
-  date-there′ : (n : ℤ) → exists c (date n) ≡ true
-  date-there′ = steps-exist part c (dateAt c R) (dates-exist c (dayOf R))
+  there : (n : ℤ) → exists c (date n) ≡ true
+  there = steps-exist part c (dateAt c R) (dates-exist c (dayOf R))
 
   -- ---- reading
 
@@ -112,7 +112,7 @@ module _ (part : Part) (c : Calendar) (R : ℤ) where
 
   pub only-past : (n : ℤ) (r : Refusal) → readSteps part c R n ≡ Reading.Refused r → r ≡ OutOfRange
   unfolding readSteps
-  only-past n = day-refused c (date n) (date-there′ n) (timeOf R)
+  only-past n = day-refused c (date n) (there n) (timeOf R)
 
   -- ---- writing
 
@@ -174,7 +174,7 @@ module _ (part : Part) (c : Calendar) (R : ℤ) where
   read-between x y z t u i j h g p q =
       let l = and-parts (leZ (negsuc 9998) (date x .year)) (leZ (date x .year) (pos 9999)) (year-inside x t i p) .0 in
       let r = and-parts (leZ (negsuc 9998) (date z .year)) (leZ (date z .year) (pos 9999)) (year-inside z u j q) .1 in
-      day-read c (date y) (date-there′ y) (timeOf R)
+      day-read c (date y) (there y) (timeOf R)
       (both (leZ (negsuc 9998) (date y .year)) (leZ (date y .year) (pos 9999)) (le-trans (negsuc 9998) (date x .year) (date y .year) l (year-rises x y h)) (le-trans (date y .year) (date z .year) (pos 9999) (year-rises y z g) r))
 
 -- ---- from the start of the reference
