@@ -47,7 +47,11 @@ fn increment(rest: u64, odd: u64) -> u64
     requires { ⌜ odd ≤ 1 ⌝ }
     ensures { λ r. ⌜ r ≡ incrementOf rest odd ⌝ }
 {
-    if 0x8000_0000_0000_0000 - odd < rest { 1 } else { 0 }
+    if 0x8000_0000_0000_0000 - odd < rest {
+        1
+    } else {
+        0
+    }
 }
 
 // (high * 2^64 + low) / 2^(64 + shift), rounded. The digits that are shifted out of the high word stand at the top of `rest`, and the

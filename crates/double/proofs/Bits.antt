@@ -2,14 +2,16 @@
 use mathlib.Core.Path.{_≡_, sym, ap, _∙_, subst}
 use mathlib.Core.Bool.{Bool, true, false, not, cond}
 use Prim.Native.Nat.{ℕ, zero, suc, _+_, _*_, _/_, _%_, _^_, _<_}
+use native.Mathlib.Nat.{mod-lt}
 use native.Mathlib.Omega.{arith}
-use lib.Dec.{T, leb, eqb, not-T, eqb→eq}
-use lib.Pow.{field}
+use lib.Dec.{T, eqb, not-T, eqb→eq}
+use lib.Pow.{field, pow-pos}
 use lib.Ieee.{Float, nan, inf, fin, binary64, odd, fits, isNan, ofFields, ofBits, toBits, ne}
 use lib.Ieee.Bits.{ofBits-toBits, cond-no}
 use lib.Ieee.Compare.{nan-differs}
 use lib.Ieee.Exact.{HasValue, odd-sign}
-use Rattle.double.specs.Fields.{significand, weight}
+use Rattle.double.specs.declared.Pattern.{Pattern}
+use Rattle.double.specs.Fields.{patternOf, significand, weight, fieldSize}
 
 -- what a pattern's fields stand for
 value-of : (s : Bool) (x t : ℕ) → x < 2047 → HasValue (ofFields binary64 s x t) s (significand x t * 2 ^ weight x) (2 ^ 1074)
@@ -31,16 +33,16 @@ no-nan (fin s m e) h = tt
 
 -- ---- the fields, as the code takes them
 abbrev pub signOf : Float → Bool
-signOf x = leb (2 ^ 63) (toBits binary64 x)
+signOf x = patternOf x .negative
 
 abbrev pub fieldOf : Float → ℕ
-fieldOf x = toBits binary64 x / 2 ^ 52 % 2048
+fieldOf x = patternOf x .field
 
 abbrev pub digitsOf : Float → ℕ
-digitsOf x = toBits binary64 x % 2 ^ 52
+digitsOf x = patternOf x .digits
 
 abbrev pub sizeOf : Float → ℕ
-sizeOf x = significand (fieldOf x) (digitsOf x) * 2 ^ weight (fieldOf x)
+sizeOf x = fieldSize (fieldOf x) (digitsOf x)
 
 -- a field that is not all ones is smaller
 pub finite : (x : Float) → (fieldOf x ≡ 2047 → ⊥) → fieldOf x < 2047
@@ -48,6 +50,17 @@ finite x h = go (toBits binary64 x / 2 ^ 52) h
   where
     go : (n : ℕ) → (n % 2048 ≡ 2047 → ⊥) → n % 2048 < 2047
     go n h = omega arith
+
+-- of a pattern that a call gave
+module _ (x : Float) (p : Pattern) (is : p ≡ patternOf x) where
+  pub given-field : p .field ≡ fieldOf x
+  given-field = ap (λ (k : Pattern). k .field) is
+
+  pub given-finite : (p .field ≡ 2047 → ⊥) → fieldOf x < 2047
+  given-finite h = finite x (λ (e : fieldOf x ≡ 2047). h (given-field ∙ e))
+
+  pub given-short : p .digits < 2 ^ 52
+  given-short = subst (λ (k : Pattern). k .digits < 2 ^ 52) (sym is) (mod-lt (toBits binary64 x) (pow-pos 52))
 
 module _ (x : Float) (F : T (fits binary64 x)) where
   pattern : x ≡ ofFields binary64 (signOf x) (fieldOf x) (digitsOf x)

@@ -1,4 +1,4 @@
--- `fixed_axis::signed_size` meets its contract.
+-- `double::signed_size` meets its contract.
 use mathlib.Core.Path.{_≡_, sym, ap, _∙_}
 use mathlib.Core.Bool.{Bool}
 use Prim.Native.Nat.{ℕ, _+_}
@@ -8,11 +8,11 @@ use mir.Syntax.{w64}
 use mir.ValLaws.{toZ-ofZ}
 use Rattle.signed.specs.Bias.{lower}
 use Rattle.signed.proofs.Differences.{sub-high}
 use Rattle.double.specs.Nearest.{withSign}
 use Rattle.double.proofs.WholeSize.{negated}
 use borrow.Author.Needs.{needs}
-use Rattle.fixed_axis.proofs.signed_size.Statement.{statement}
-use Rattle.fixed_axis.proofs.signed_size.Tie as tie
+use Rattle.double.proofs.signed_size.Statement.{statement}
+use Rattle.double.proofs.signed_size.Tie as tie
 
 raised : (n : ℕ) → lower (9223372036854775808 + n) ≡ pos n
 raised n = sub-high (9223372036854775808 + n) 9223372036854775808 (omega arith) ∙ ap pos (omega arith)
