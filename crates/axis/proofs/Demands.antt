@@ -18,23 +18,23 @@ use lib.Ieee.{Float}
 use Rattle.refusal.specs.declared.Refusal.{Refusal}
 use Rattle.refusal.specs.declared.Refusal.the-variants.{OutOfRange, Inexact}
 use Rattle.calendar.specs.declared.Calendar.{Calendar}
-use Rattle.period.specs.declared.Period.{Period}
-use Rattle.period.specs.declared.Period.the-variants.{Month, Year}
-use Rattle.period.specs.declared.Mode.{Mode}
+use Rattle.axis_types.specs.declared.Period.{Period}
+use Rattle.axis_types.specs.declared.Period.the-variants.{Month, Year}
+use Rattle.axis_types.specs.declared.Mode.{Mode}
 use Rattle.instant.specs.Instant.{timeOf, inRange}
 use Rattle.double.specs.Whole.{wholeOf}
-use Rattle.double.specs.declared.Reading.{Reading}
+use Rattle.axis_types.specs.declared.Reading.{Reading}
 use Rattle.double.specs.declared.whole.Whole.{Whole}
 use Rattle.step.specs.Months.{monthsAfter, yearsAfter}
 use Rattle.step.specs.Answers.{monthsBetween, yearsBetween}
 use Rattle.fixed_axis.specs.Fixed.{readWhole, readDouble, writeInstant}
-use Rattle.fixed_axis.specs.declared.OffsetAnswer.{OffsetAnswer}
+use Rattle.axis_types.specs.declared.OffsetAnswer.{OffsetAnswer}
 use Rattle.fixed_axis.proofs.Offsets.{read-of}
 use Rattle.fixed_axis.proofs.Demands as Fixed
 use Rattle.axis.specs.Axis.{stepOf, dateAt, readStep, writeStep, asWhole, doubleAsWhole, wholeIn, doubleIn, writeIn, readWholeOn, readDoubleOn, writeInstantOn}
 use Rattle.axis.specs.Start.{stepIn, stepOn}
 use Rattle.axis.specs.Demands.{Inverse}
-use Rattle.axis_record.specs.declared.Axis.{Axis}
+use Rattle.axis_types.specs.declared.Axis.{Axis}
 use Rattle.axis.specs.declared.Step.{Step}
 use Rattle.axis.proofs.Stepping.{moved-of, months, years}
 use Rattle.axis.proofs.Stepping as Stepping

@@ -21,12 +21,12 @@ use Rattle.instant.specs.declared.Fields.{Fields}
 use Rattle.instant.specs.declared.FieldsAnswer.{FieldsAnswer}
 use Rattle.instant.specs.declared.InstantAnswer.{InstantAnswer}
 use Rattle.instant.proofs.Theorems.{shown, time-of-fields, clock-of-time, time-small}
-use Rattle.double.specs.Reading.{isRead}
-use Rattle.double.specs.declared.Reading.{Reading}
+use Rattle.axis_types.specs.Reading.{isRead}
+use Rattle.axis_types.specs.declared.Reading.{Reading}
 use Rattle.step.specs.Answers.{within, dateFrom}
 use Rattle.step.specs.declared.StepAnswer.{StepAnswer}
 use Rattle.step.specs.declared.reached.Part.{Part}
-use Rattle.fixed_axis.specs.declared.OffsetAnswer.{OffsetAnswer}
+use Rattle.axis_types.specs.declared.OffsetAnswer.{OffsetAnswer}
 use Rattle.axis.specs.Axis.{dateAt, onDay, onDate, readMoved, writeMoved, offsetFrom}
 use Rattle.axis.specs.Start.{movedFrom, readPart}
 

@@ -23,13 +23,13 @@ use Rattle.calendar.proofs.Ordered.{Before}
 use Rattle.calendar.proofs.Theorems.{dates-exist, answered}
 use Rattle.instant.specs.Instant.{dayOf, timeOf, inRange}
 use Rattle.instant.proofs.Theorems.{day-of-sum, time-of-sum, time-small, day-and-time}
-use Rattle.double.specs.declared.Reading.{Reading}
+use Rattle.axis_types.specs.declared.Reading.{Reading}
 use Rattle.step.specs.Months.{monthsAfter, yearsAfter}
 use Rattle.step.specs.Answers.{pickStep, searched, numberAt, stepFrom, monthsBetween, yearsBetween}
 use Rattle.step.specs.declared.StepAnswer.{StepAnswer}
 use Rattle.step.proofs.Order.{months-before, years-before}
 use Rattle.step.proofs.Theorems as Theorems
-use Rattle.fixed_axis.specs.declared.OffsetAnswer.{OffsetAnswer}
+use Rattle.axis_types.specs.declared.OffsetAnswer.{OffsetAnswer}
 use Rattle.axis.specs.Axis.{dateAt, onDay, readMoved, offsetFrom, writeMoved}
 use Rattle.axis.specs.Demands.{Inverse}
 

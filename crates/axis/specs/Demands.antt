@@ -8,8 +8,8 @@ use Rattle.refusal.specs.declared.Refusal.{Refusal}
 use Rattle.refusal.specs.declared.Refusal.the-variants.{OutOfRange, Inexact}
 use Rattle.calendar.specs.declared.Calendar.{Calendar}
 use Rattle.instant.specs.Instant.{inRange}
-use Rattle.double.specs.declared.Reading.{Reading}
-use Rattle.fixed_axis.specs.declared.OffsetAnswer.{OffsetAnswer}
+use Rattle.axis_types.specs.declared.Reading.{Reading}
+use Rattle.axis_types.specs.declared.OffsetAnswer.{OffsetAnswer}
 
 pub record Inverse (c : Calendar) (R : ℤ) (read : ℤ → Reading) (write : ℤ → OffsetAnswer) : Type 0 where
   -- what is written is a 64-bit number, and reads as the instant, exactly

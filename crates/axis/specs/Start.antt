@@ -7,14 +7,14 @@ use lib.Ieee.{Float}
 use Rattle.calendar.specs.Answers.{dayAnswer}
 use Rattle.calendar.specs.declared.Calendar.{Calendar}
 use Rattle.calendar.specs.declared.Date.{Date}
-use Rattle.period.specs.declared.Period.{Period}
-use Rattle.period.specs.declared.Mode.{Mode}
+use Rattle.axis_types.specs.declared.Period.{Period}
+use Rattle.axis_types.specs.declared.Mode.{Mode}
 use Rattle.instant.specs.Instant.{timeOf}
 use Rattle.double.specs.Whole.{wholeOf}
-use Rattle.double.specs.declared.Reading.{Reading}
+use Rattle.axis_types.specs.declared.Reading.{Reading}
 use Rattle.step.specs.Closed.{Begun, movedBy}
 use Rattle.step.specs.declared.reached.Part.{Part}
-use Rattle.axis_record.specs.declared.Axis.{Axis}
+use Rattle.axis_types.specs.declared.Axis.{Axis}
 use Rattle.axis.specs.Axis.{stepOf, dateAt, onDay, readMoved, asWhole}
 use Rattle.axis.specs.declared.Step.{Step}
 use Rattle.axis.specs.declared.moved.Start.{Start}

@@ -7,27 +7,23 @@ ghost use Rattle.step.specs.Months.{monthsAfter, yearsAfter};
 ghost use Rattle.step.specs.Answers.{monthsBetween, yearsBetween};
 ghost use Rattle.axis.specs.Axis.{stepOf, onDate, readMoved, writeMoved, offsetFrom, readStep, writeStep, doubleAsWhole, readWholeOn, readDoubleOn, readOffset, writeInstantOn, writeFieldsOn};
 ghost use Rattle.axis.specs.Start.{stepOn};
-use axis_record::Axis;
+use axis_types::Axis;
+use axis_types::Mode;
+use axis_types::Offset;
+use axis_types::OffsetAnswer;
+use axis_types::Period;
+use axis_types::Reading;
 use calendar::Calendar;
 use calendar::Date;
 use calendar::DateAnswer;
-use double::Reading;
 use double::whole::Whole;
-use fixed_axis::OffsetAnswer;
 use instant::Fields;
 use instant::FieldsAnswer;
 use instant::InstantAnswer;
-use period::Mode;
-use period::Period;
 use refusal::Refusal;
 use step::StepAnswer;
 
 pub mod moved;
-
-pub enum Offset {
-    Whole(i64),
-    Double(f64),
-}
 
 // What a period moves in calendar mode.
 pub enum Step {

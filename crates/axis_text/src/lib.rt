@@ -1,7 +1,7 @@
 // An axis read from a calendar name and a units text (specs/Units.antt). The call is total.
 ghost use mathlib.Core.Path.{_≡_};
 ghost use Rattle.axis_text.specs.Units.{readUnits};
-use axis_record::Axis;
+use axis_types::Axis;
 use calendar_name::CalendarNamed;
 use instant::InstantAnswer;
 use refusal::Refusal;

@@ -14,9 +14,9 @@ use Rattle.calendar.specs.declared.Calendar.{Calendar}
 use Rattle.calendar.specs.declared.Date.{Date}
 use Rattle.calendar.specs.declared.DateAnswer.{DateAnswer}
 use Rattle.calendar.specs.declared.DayAnswer.{DayAnswer}
-use Rattle.period.specs.Lengths.{lengthOf}
-use Rattle.period.specs.declared.Mode.{Mode}
-use Rattle.period.specs.declared.Period.{Period}
+use Rattle.axis_types.specs.Lengths.{lengthOf}
+use Rattle.axis_types.specs.declared.Mode.{Mode}
+use Rattle.axis_types.specs.declared.Period.{Period}
 use Rattle.instant.specs.Instant.{dayOf, timeOf, inRange, withTime, fieldsAnswer, dateIn, clockTime, withClock, instantAnswer}
 use Rattle.instant.specs.declared.Fields.{Fields}
 use Rattle.instant.specs.declared.FieldsAnswer.{FieldsAnswer}
@@ -24,16 +24,16 @@ use Rattle.instant.specs.declared.InstantAnswer.{InstantAnswer}
 use Rattle.double.specs.Nearest.{distance}
 use Rattle.double.specs.Reading.{nearestCount}
 use Rattle.double.specs.Whole.{wholeOf}
-use Rattle.double.specs.declared.Reading.{Reading}
+use Rattle.axis_types.specs.declared.Reading.{Reading}
 use Rattle.double.specs.declared.whole.Whole.{Whole}
 use Rattle.step.specs.Months.{downTo, monthAfter, monthBefore, monthsAfter, steps, yearsAfter}
 use Rattle.step.specs.Answers.{dateFrom, within}
 use Rattle.fixed_axis.specs.Fixed.{timeAfter, fromReference, readingAt, readWhole, readFloat, readDouble}
 use Rattle.axis.specs.Axis.{stepOf, onDay, onDate, readMoved, readStep, asWhole, doubleAsWhole, wholeIn, doubleIn, readWholeOn, readDoubleOn, readOffset}
-use Rattle.axis.specs.declared.Offset.{Offset}
+use Rattle.axis_types.specs.declared.Offset.{Offset}
 use Rattle.axis.specs.declared.Step.{Step}
 use Rattle.axis.proofs.Moving.{moved-in, moved-out}
-use Rattle.axis_record.specs.declared.Axis.{Axis}
+use Rattle.axis_types.specs.declared.Axis.{Axis}
 use Rattle.axis_text.specs.Units.{axisAt, axisOf, readUnits}
 use Rattle.axis_text.specs.declared.AxisAnswer.{AxisAnswer}
 use Rattle.date_text.specs.declared.Written.{Written}

@@ -9,12 +9,12 @@ use Rattle.refusal.specs.Number.{numberOf}
 use Rattle.calendar.specs.declared.Calendar.{Calendar}
 use Rattle.instant.specs.Instant.{fieldsAnswer}
 use Rattle.instant.specs.declared.FieldsAnswer.{FieldsAnswer}
-use Rattle.double.specs.declared.Reading.{Reading}
+use Rattle.axis_types.specs.declared.Reading.{Reading}
 use Rattle.axis.specs.Axis.{readOffset}
-use Rattle.axis.specs.declared.Offset.{Offset}
+use Rattle.axis_types.specs.declared.Offset.{Offset}
 use Rattle.axis_text.specs.Units.{readUnits}
 use Rattle.axis_text.specs.declared.AxisAnswer.{AxisAnswer}
-use Rattle.axis_record.specs.declared.Axis.{Axis}
+use Rattle.axis_types.specs.declared.Axis.{Axis}
 use Rattle.iso_text.specs.Iso.{textOf}
 use Rattle.grammar.specs.Rules.{bytes}
 

@@ -1,12 +1,12 @@
 // Runs the cases by hand of document 01 over the library's calls. A line for each case: the calendar, the units text, the offset
 // that is read or the date that is written, and the answer. The stored output is written by hand from document 01. The cases of the
 // first two groups are proved over the definitions too (specs/Cases.antt).
-use axis::Offset;
-use axis_record::Axis;
 use axis_text::AxisAnswer;
+use axis_types::Axis;
+use axis_types::Offset;
+use axis_types::OffsetAnswer;
+use axis_types::Reading;
 use calendar::Calendar;
-use double::Reading;
-use fixed_axis::OffsetAnswer;
 use instant::InstantAnswer;
 use iso_form::LengthAnswer;
 use refusal::Refusal;

@@ -3,10 +3,10 @@ use Prim.Native.Nat.{ℕ, zero, suc}
 use Rattle.refusal.specs.declared.Refusal.the-variants.{UnknownCalendar, IllFormed}
 use Rattle.calendar.specs.declared.Calendar.{Calendar}
 use Rattle.calendar.specs.declared.Calendar.the-variants.{Standard, ProlepticGregorian, Julian, NoLeap, AllLeap, Day360}
-use Rattle.period.specs.declared.Period.{Period}
-use Rattle.period.specs.declared.Period.the-variants.{Second, Millisecond, Minute, Hour, Day, Week, Month, Year}
-use Rattle.period.specs.declared.Mode.{Mode}
-use Rattle.axis_record.specs.declared.Axis.{Axis}
+use Rattle.axis_types.specs.declared.Period.{Period}
+use Rattle.axis_types.specs.declared.Period.the-variants.{Second, Millisecond, Minute, Hour, Day, Week, Month, Year}
+use Rattle.axis_types.specs.declared.Mode.{Mode}
+use Rattle.axis_types.specs.declared.Axis.{Axis}
 use Rattle.codes.specs.declared.CodedCalendar.{CodedCalendar}
 use Rattle.codes.specs.declared.CodedPeriod.{CodedPeriod}
 use Rattle.codes.specs.declared.CodedMode.{CodedMode}

@@ -1,10 +1,10 @@
 // The numbers by which calendars, periods and modes cross the C boundary.
 ghost use mathlib.Core.Path.{_≡_};
 ghost use Rattle.codes.specs.Codes.{calendarOf, periodOf, modeOf, axisOf, calendarCode, periodCode, modeCode, axisCode};
-use axis_record::Axis;
+use axis_types::Axis;
+use axis_types::Mode;
+use axis_types::Period;
 use calendar::Calendar;
-use period::Mode;
-use period::Period;
 use refusal::Refusal;
 
 #[repr(C)]

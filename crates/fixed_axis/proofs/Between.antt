@@ -13,10 +13,10 @@ use Rattle.signed.proofs.Tests.{both, and-parts}
 use Rattle.signed.proofs.Order.{le-trans}
 use Rattle.signed.proofs.Integers.{mono, neg-le, neg-le-pos}
 use Rattle.calendar.specs.declared.Calendar.{Calendar}
-use Rattle.period.specs.Lengths.{lengthOf}
-use Rattle.period.specs.declared.Period.{Period}
+use Rattle.axis_types.specs.Lengths.{lengthOf}
+use Rattle.axis_types.specs.declared.Period.{Period}
 use Rattle.instant.specs.Instant.{inRange}
-use Rattle.double.specs.declared.Reading.{Reading}
+use Rattle.axis_types.specs.declared.Reading.{Reading}
 use Rattle.double.proofs.Demands as Double
 use Rattle.fixed_axis.specs.Fixed.{timeAfter, readWhole, readDouble}
 use Rattle.fixed_axis.specs.Closed.{firstInstant, lastInstant}

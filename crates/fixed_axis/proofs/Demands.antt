@@ -33,19 +33,19 @@ use Rattle.signed.proofs.Tests.{left-out, right-out}
 use Rattle.calendar.specs.Calendar.{next, dateOf, inYears}
 use Rattle.calendar.specs.declared.Calendar.{Calendar}
 use Rattle.calendar.proofs.Theorems.{next-date}
-use Rattle.period.specs.Lengths.{lengthOf}
-use Rattle.period.specs.declared.Period.{Period}
-use Rattle.period.specs.declared.Period.the-variants.{Day}
+use Rattle.axis_types.specs.Lengths.{lengthOf}
+use Rattle.axis_types.specs.declared.Period.{Period}
+use Rattle.axis_types.specs.declared.Period.the-variants.{Day}
 use Rattle.instant.specs.Instant.{dayOf, timeOf, inRange}
 use Rattle.double.specs.Nearest.{distance, IsNearest}
 use Rattle.double.specs.Reading.{nearestCount}
-use Rattle.double.specs.declared.Reading.{Reading}
+use Rattle.axis_types.specs.declared.Reading.{Reading}
 use Rattle.double.proofs.Distance.{count-nearest}
 use Rattle.double.proofs.Demands as Double
 use Rattle.fixed_axis.specs.Fixed.{timeAfter, readingAt, markedAt, readFloat, readWhole, readDouble, inPeriods, writeInstant}
 use Rattle.fixed_axis.specs.Demands.{Demand3, InOrder}
 use Rattle.fixed_axis.specs.Closed.{firstInstant, lastInstant}
-use Rattle.fixed_axis.specs.declared.OffsetAnswer.{OffsetAnswer}
+use Rattle.axis_types.specs.declared.OffsetAnswer.{OffsetAnswer}
 use Rattle.fixed_axis.proofs.Range.{range}
 use Rattle.fixed_axis.proofs.Joined.{joined}
 use Rattle.fixed_axis.proofs.Dates.{day-after, time-after, in-order}

@@ -7,11 +7,11 @@ use lib.Ieee.{Float, nan, inf, fin}
 use Rattle.refusal.specs.declared.Refusal.the-variants.{OutOfRange}
 use Rattle.signed.specs.Bias.{lower}
 use Rattle.calendar.specs.declared.Calendar.{Calendar}
-use Rattle.period.specs.Lengths.{lengthOf}
-use Rattle.period.specs.declared.Period.{Period}
+use Rattle.axis_types.specs.Lengths.{lengthOf}
+use Rattle.axis_types.specs.declared.Period.{Period}
 use Rattle.double.specs.Reading.{nearestCount, Bounds}
 use Rattle.double.specs.Reading.{readDouble as readBetween, readFloat as floatBetween}
-use Rattle.double.specs.declared.Reading.{Reading}
+use Rattle.axis_types.specs.declared.Reading.{Reading}
 use Rattle.double.proofs.Distance.{count-exact}
 use Rattle.fixed_axis.specs.Fixed.{readFloat, readDouble}
 use Rattle.fixed_axis.specs.Closed.{firstInstant, lastInstant}

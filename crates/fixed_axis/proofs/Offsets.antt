@@ -17,17 +17,17 @@ use Rattle.signed.proofs.Tests.{both, and-parts}
 use Rattle.signed.proofs.Order.{lt-not-le}
 use Rattle.signed.proofs.Integers.{plus-minus, plus-difference, neg-times, mag-plus, mag-minus}
 use Rattle.calendar.specs.declared.Calendar.{Calendar}
-use Rattle.period.specs.Lengths.{lengthOf}
-use Rattle.period.specs.declared.Period.{Period}
-use Rattle.period.specs.declared.Period.the-variants.{Second}
+use Rattle.axis_types.specs.Lengths.{lengthOf}
+use Rattle.axis_types.specs.declared.Period.{Period}
+use Rattle.axis_types.specs.declared.Period.the-variants.{Second}
 use Rattle.instant.specs.Instant.{inRange}
-use Rattle.double.specs.Reading.{isRead}
-use Rattle.double.specs.declared.Reading.{Reading}
-use Rattle.double.proofs.Answers.{was-read}
+use Rattle.axis_types.specs.Reading.{isRead}
+use Rattle.axis_types.specs.declared.Reading.{Reading}
+use Rattle.axis_types.proofs.Answers.{was-read}
 use Rattle.double.proofs.Range as Between
 use Rattle.fixed_axis.specs.Fixed.{timeAfter, readWhole, inPeriods, writeInstant}
 use Rattle.fixed_axis.specs.Closed.{firstInstant, lastInstant}
-use Rattle.fixed_axis.specs.declared.OffsetAnswer.{OffsetAnswer}
+use Rattle.axis_types.specs.declared.OffsetAnswer.{OffsetAnswer}
 use Rattle.fixed_axis.proofs.Range.{range, bounds, sized}
 
 -- ---- a displacement that is a number of periods

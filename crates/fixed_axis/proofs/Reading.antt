@@ -12,7 +12,7 @@ use Rattle.signed.proofs.Differences.{sub-low, sub-high, same-diff}
 use Rattle.calendar.specs.declared.Calendar.{Calendar}
 use Rattle.instant.specs.Instant.{inRange}
 use Rattle.instant.proofs.Days.{far-before, far-after}
-use Rattle.double.specs.declared.Reading.{Reading}
+use Rattle.axis_types.specs.declared.Reading.{Reading}
 use Rattle.fixed_axis.specs.Fixed.{readingAt}
 use Rattle.fixed_axis.specs.Closed.{Near}
 use Rattle.fixed_axis.proofs.Range.{Sized}

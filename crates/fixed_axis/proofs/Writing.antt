@@ -12,7 +12,7 @@ use Rattle.signed.specs.Bias.{lower}
 use Rattle.signed.proofs.Differences.{sub-low, sub-high}
 use Rattle.double.specs.Nearest.{withSign}
 use Rattle.fixed_axis.specs.Fixed.{inPeriods}
-use Rattle.fixed_axis.specs.declared.OffsetAnswer.{OffsetAnswer}
+use Rattle.axis_types.specs.declared.OffsetAnswer.{OffsetAnswer}
 use Rattle.fixed_axis.proofs.Sums.{sub-minus}
 
 -- a quotient by 2 or more is at most half

@@ -2,8 +2,8 @@
 use Prim.Native.Nat.{ℕ, _+_, _-_, _≤_, _<_}
 use Rattle.calendar.specs.declared.Calendar.{Calendar}
 use Rattle.calendar.specs.declared.Calendar.the-variants.{Standard, ProlepticGregorian, Julian, NoLeap, AllLeap, Day360}
-use Rattle.period.specs.declared.Period.{Period}
-use Rattle.period.specs.declared.Period.the-variants.{Second, Millisecond, Minute, Hour, Day, Week, Month, Year}
+use Rattle.axis_types.specs.declared.Period.{Period}
+use Rattle.axis_types.specs.declared.Period.the-variants.{Second, Millisecond, Minute, Hour, Day, Week, Month, Year}
 
 -- the first and the last microsecond of the years -9999 to 9999, raised by 2^63
 abbrev pub firstInstant : Calendar → ℕ

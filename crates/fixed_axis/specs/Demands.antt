@@ -8,8 +8,8 @@ use lib.Ieee.{down}
 use Rattle.calendar.specs.Calendar.{dateOf, inYears}
 use Rattle.calendar.specs.Order.{earlier}
 use Rattle.calendar.specs.declared.Calendar.{Calendar}
-use Rattle.period.specs.Lengths.{lengthOf}
-use Rattle.period.specs.declared.Period.{Period}
+use Rattle.axis_types.specs.Lengths.{lengthOf}
+use Rattle.axis_types.specs.declared.Period.{Period}
 use Rattle.instant.specs.Instant.{dayOf, timeOf}
 use Rattle.double.specs.Nearest.{distance, IsNearest}
 

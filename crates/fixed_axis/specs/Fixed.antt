@@ -7,13 +7,13 @@ use lib.IntN.{ℤ, pos, negsuc, negℤ, _+ℤ_, _-ℤ_, _*ℤ_}
 use lib.Ieee.{Float, nan, inf, fin}
 use Rattle.refusal.specs.declared.Refusal.the-variants.{OutOfRange, Inexact, NotFinite}
 use Rattle.calendar.specs.declared.Calendar.{Calendar}
-use Rattle.period.specs.Lengths.{lengthOf}
-use Rattle.period.specs.declared.Period.{Period}
+use Rattle.axis_types.specs.Lengths.{lengthOf}
+use Rattle.axis_types.specs.declared.Period.{Period}
 use Rattle.instant.specs.Instant.{inRange}
 use Rattle.double.specs.Nearest.{distance}
 use Rattle.double.specs.Reading.{nearestCount}
-use Rattle.double.specs.declared.Reading.{Reading}
-use Rattle.fixed_axis.specs.declared.OffsetAnswer.{OffsetAnswer}
+use Rattle.axis_types.specs.declared.Reading.{Reading}
+use Rattle.axis_types.specs.declared.OffsetAnswer.{OffsetAnswer}
 
 -- ---- reading
 

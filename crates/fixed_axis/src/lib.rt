@@ -5,22 +5,17 @@ ghost use mathlib.Core.Bool.{true};
 ghost use Prim.Native.Nat.{_+_, _-_, _<_, _^_};
 ghost use lib.IntN.{_-ℤ_};
 ghost use Rattle.signed.specs.Bias.{lower};
-ghost use Rattle.period.specs.Lengths.{lengthOf};
+ghost use Rattle.axis_types.specs.Lengths.{lengthOf};
 ghost use Rattle.instant.specs.Instant.{inRange};
 ghost use Rattle.fixed_axis.specs.Fixed.{timeAfter, readingAt, readWhole, readDouble, inPeriods, writeInstant};
 ghost use Rattle.fixed_axis.specs.Closed.{firstInstant, lastInstant, reachOf, Reached};
 ghost use Rattle.double.specs.Nearest.{withSign};
-ghost use Rattle.double.specs.Reading.{isRead};
+ghost use Rattle.axis_types.specs.Reading.{isRead};
+use axis_types::OffsetAnswer;
+use axis_types::Period;
+use axis_types::Reading;
 use calendar::Calendar;
-use double::Reading;
-use period::Period;
 use refusal::Refusal;
-
-// The whole offset of an instant.
-pub enum OffsetAnswer {
-    Is(i64),
-    Refused(Refusal),
-}
 
 // The first microsecond of year -9999, raised by 2^63.
 fn first_instant(c: Calendar) -> u64
@@ -95,7 +90,7 @@ fn time_raised(p: Period, r: u64, k: u64) -> u64
     ensures { λ at. ⌜ lower at ≡ timeAfter p (lower r) (lower k) ⌝ }
 {
     let most = reach(p);
-    let micros = period::microseconds(p);
+    let micros = axis_types::microseconds(p);
     r + (k - (0x8000_0000_0000_0000 - most)) * micros - most * micros
 }
 
@@ -145,7 +140,7 @@ pub fn read_double(c: Calendar, p: Period, reference: i64, x: f64) -> Reading
         range_start(c),
         range_end(c),
         reference,
-        period::microseconds(p),
+        axis_types::microseconds(p),
         x,
     )
 }
@@ -174,7 +169,7 @@ fn signed_size(negative: bool, n: u64) -> i64
 fn periods_between(p: Period, r: u64, k: u64) -> OffsetAnswer
     ensures { λ a. ⌜ a ≡ inPeriods (lower k -ℤ lower r) (lengthOf p) ⌝ }
 {
-    let micros = period::microseconds(p);
+    let micros = axis_types::microseconds(p);
     let size = distance(r, k);
     if size % micros == 0 {
         return OffsetAnswer::Is(signed_size(k < r, size / micros));

@@ -14,9 +14,9 @@ use Rattle.calendar.specs.Calendar.{dateOf}
 use Rattle.calendar.specs.declared.Calendar.{Calendar}
 use Rattle.instant.specs.Instant.{dayOf, timeOf, fieldsAt}
 use Rattle.instant.specs.declared.Fields.{Fields}
-use Rattle.double.specs.declared.Reading.{Reading}
+use Rattle.axis_types.specs.declared.Reading.{Reading}
 use Rattle.axis.specs.Axis.{readOffset}
-use Rattle.axis.specs.declared.Offset.{Offset}
+use Rattle.axis_types.specs.declared.Offset.{Offset}
 use Rattle.grammar.specs.Reader.{read}
 use Rattle.grammar.specs.Rules.{bytes}
 use Rattle.iso_form.specs.Form.{two}

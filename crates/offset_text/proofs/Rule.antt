@@ -16,7 +16,7 @@ use Rattle.grammar.proofs.Tests.{clash, none-some}
 use Rattle.grammar.proofs.Classes.{starts-every}
 use Rattle.grammar.proofs.Reading.{reads, underived}
 use Rattle.grammar.proofs.Steps.{after, or-first, or-second}
-use Rattle.axis.specs.declared.Offset.{Offset}
+use Rattle.axis_types.specs.declared.Offset.{Offset}
 use Rattle.offset_text.specs.OffsetRule.{atMost, digitsUpTo, hexDigit, hexadecimal, pattern}
 use Rattle.offset_text.specs.Closed.{digitsFrom}
 use Rattle.offset_text.proofs.Digits.{decimal-found, hex-found}

@@ -12,7 +12,7 @@ use Rattle.grammar.specs.Reader.{nullable, first, front, back, scan, whole, rea
 use Rattle.grammar.specs.Clear.{extends, outside, apart, clear}
 use Rattle.grammar.specs.Rules.{bytes}
 use Rattle.grammar.proofs.Reading.{reads, derives, refused, underived}
-use Rattle.axis.specs.declared.Offset.{Offset}
+use Rattle.axis_types.specs.declared.Offset.{Offset}
 use Rattle.offset_text.specs.OffsetRule.{offset, offsetAnswer}
 use Rattle.offset_text.specs.declared.OffsetText.{OffsetText}
 

@@ -10,7 +10,7 @@ use lib.Ieee.{binary64, ofBits}
 use lib.ListN.{length}
 use Rattle.grammar.specs.Grammar.{Class, within, Grammar, run, _or_, give}
 use Rattle.grammar.specs.Rules.{_⇒_, range, char, digit, decimal}
-use Rattle.axis.specs.declared.Offset.{Offset}
+use Rattle.axis_types.specs.declared.Offset.{Offset}
 use Rattle.offset_text.specs.declared.OffsetText.{OffsetText}
 
 -- ---- a whole offset: 1 to 19 digits, after a minus or none. A signed number of 64 bits lies from -2 ^ 63 to 2 ^ 63 - 1

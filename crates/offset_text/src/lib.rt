@@ -8,7 +8,7 @@ ghost use Rattle.grammar.specs.Reader.{read};
 ghost use Rattle.grammar.specs.Rules.{number};
 ghost use Rattle.offset_text.specs.OffsetRule.{digitOf, negative, positive, bits, offset, offsetAnswer};
 ghost use Rattle.offset_text.specs.Closed.{digitsFrom, numberIn};
-use axis::Offset;
+use axis_types::Offset;
 use grammar::next_in;
 
 // The offset that was read.

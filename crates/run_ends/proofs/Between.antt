@@ -7,16 +7,16 @@ use lib.IntN.{ℤ}
 use lib.Signed.{leZ}
 use lib.Ieee.{Float, le}
 use Rattle.signed.proofs.Tests.{and-parts}
-use Rattle.period.specs.declared.Mode.{Mode}
-use Rattle.double.specs.Reading.{isRead}
-use Rattle.double.specs.declared.Reading.{Reading}
-use Rattle.double.proofs.Answers.{was-read}
+use Rattle.axis_types.specs.declared.Mode.{Mode}
+use Rattle.axis_types.specs.Reading.{isRead}
+use Rattle.axis_types.specs.declared.Reading.{Reading}
+use Rattle.axis_types.proofs.Answers.{was-read}
 use Rattle.fixed_axis.specs.Fixed.{readDouble}
 use Rattle.fixed_axis.proofs.Between.{double-between}
 use Rattle.axis.specs.Axis.{readDoubleOn, readWholeOn}
 use Rattle.axis.proofs.Between.{whole-between}
 use Rattle.axis.proofs.Demands.{fixed-double, whole-double}
-use Rattle.axis_record.specs.declared.Axis.{Axis}
+use Rattle.axis_types.specs.declared.Axis.{Axis}
 use Rattle.span.specs.Span.{Each, doubleSpan, wholeSpan, wholeDoubleSpan}
 use Rattle.span.specs.declared.Doubles.{Doubles}
 use Rattle.span.specs.declared.Wholes.{Wholes}

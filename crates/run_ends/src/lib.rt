@@ -2,13 +2,13 @@
 // not show it, nothing is said.
 ghost use mathlib.Core.Path.{_≡_};
 ghost use mathlib.Core.Bool.{true, _&&_};
-ghost use Rattle.period.specs.declared.Mode.{Mode};
-ghost use Rattle.double.specs.Reading.{isRead};
+ghost use Rattle.axis_types.specs.declared.Mode.{Mode};
+ghost use Rattle.axis_types.specs.Reading.{isRead};
 ghost use Rattle.axis.specs.Axis.{readDoubleOn, readWholeOn};
 ghost use Rattle.span.specs.Span.{Each};
-use axis_record::Axis;
-use double::Reading;
-use period::Mode;
+use axis_types::Axis;
+use axis_types::Mode;
+use axis_types::Reading;
 use span::Doubles;
 use span::WholeDoubles;
 

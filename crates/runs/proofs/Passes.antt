@@ -13,9 +13,9 @@ use lib.Seq.{drop-cons, take-all}
 use borrow.Author.Tests.{lt-ltb, le-ltb, ltb-false}
 use Rattle.refusal.specs.declared.Refusal.{Refusal}
 use Rattle.refusal.specs.declared.Refusal.the-variants.{OutOfRange, NoRoom}
-use Rattle.double.specs.Reading.{instantOf, isRead}
-use Rattle.double.specs.declared.Reading.{Reading}
-use Rattle.double.proofs.Answers.{was-read}
+use Rattle.axis_types.specs.Reading.{instantOf, isRead}
+use Rattle.axis_types.specs.declared.Reading.{Reading}
+use Rattle.axis_types.proofs.Answers.{was-read}
 use Rattle.span.specs.Span.{Each}
 use Rattle.runs.specs.declared.Check.{Check}
 use Rattle.runs.specs.Run.{markOf, after, checked, rounded, overlaid, runCheck}

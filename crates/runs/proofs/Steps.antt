@@ -3,16 +3,16 @@ use mathlib.Core.Path.{_≡_, refl, sym, ap, _∙_}
 use mathlib.Core.Bool.{Bool, true, cond}
 use lib.IntN.{ℤ}
 use lib.Ieee.{Float}
-use Rattle.period.specs.declared.Mode.{Mode}
+use Rattle.axis_types.specs.declared.Mode.{Mode}
 use Rattle.instant.specs.Instant.{inRange}
 use Rattle.double.specs.Whole.{wholeOf}
-use Rattle.double.specs.declared.Reading.{Reading}
+use Rattle.axis_types.specs.declared.Reading.{Reading}
 use Rattle.double.specs.declared.whole.Whole.{Whole}
 use Rattle.axis.specs.Axis.{readStep, asWhole, readWholeOn, readDoubleOn}
 use Rattle.axis.specs.Start.{stepOn, byWhole}
 use Rattle.axis.specs.declared.Step.{Step}
 use Rattle.axis.proofs.Demands.{on-step, whole-exact, whole-double, refused-double}
-use Rattle.axis_record.specs.declared.Axis.{Axis}
+use Rattle.axis_types.specs.declared.Axis.{Axis}
 use Rattle.runs.specs.Run.{markOf}
 
 -- ---- whole offsets

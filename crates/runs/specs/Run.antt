@@ -8,8 +8,8 @@ use lib.IntN.{ℤ}
 use lib.ListN.{length, drop}
 use Rattle.refusal.specs.Number.{numberOf as refusalNumber}
 use Rattle.refusal.specs.declared.Refusal.the-variants.{OutOfRange, NoRoom}
-use Rattle.double.specs.Reading.{instantOf}
-use Rattle.double.specs.declared.Reading.{Reading}
+use Rattle.axis_types.specs.Reading.{instantOf}
+use Rattle.axis_types.specs.declared.Reading.{Reading}
 use Rattle.runs.specs.declared.Check.{Check}
 use Rattle.runs.specs.declared.RunAnswer.{RunAnswer}
 

@@ -3,8 +3,8 @@ ghost use mathlib.Core.Path.{_≡_};
 ghost use Rattle.axis.specs.Axis.{readDoubleOn, readWholeOn};
 ghost use Rattle.runs.specs.Run.{checked};
 use crate::Check;
-use axis_record::Axis;
-use double::Reading;
+use axis_types::Axis;
+use axis_types::Reading;
 
 // The first refused offset.
 fn first_refused_double(axis: Axis, source: &[f64]) -> Check

@@ -3,15 +3,16 @@ ghost use mathlib.Core.Path.{_≡_};
 ghost use mathlib.Core.Bool.{true};
 ghost use Prim.Native.Nat.{_≤_};
 ghost use lib.ListN.{length};
-ghost use Rattle.double.specs.Reading.{Bounds, instantOf, isRead};
+ghost use Rattle.axis_types.specs.Reading.{instantOf, isRead};
+ghost use Rattle.double.specs.Reading.{Bounds};
 ghost use Rattle.double.specs.Reading.{readDouble as readBetween};
 ghost use Rattle.fixed_axis.specs.Fixed.{readWhole, readDouble};
 ghost use Rattle.axis.specs.Start.{byWhole};
 ghost use Rattle.runs.specs.Run.{checked, rounded, overlaid};
 ghost use Rattle.runs.specs.declared.Check.{Check};
+use axis_types::Period;
 use calendar::Calendar;
 use double::whole::Whole;
-use period::Period;
 
 // The instants, each at its own offset's place, and how many were rounded; of the range from `first` to `last`.
 fn write_between(
@@ -56,7 +57,7 @@ pub fn write_doubles(
         first,
         last,
         reference,
-        period::microseconds(p),
+        axis_types::microseconds(p),
         source,
         destination,
     )

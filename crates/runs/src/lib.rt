@@ -1,18 +1,18 @@
 // A lent run of offsets read at once into a lent run of instants, all or nothing. A reader may rely on specs/Run.antt.
 ghost use mathlib.Core.Path.{_≡_};
 ghost use mathlib.Core.Bool.{true, cond};
-ghost use Rattle.period.specs.declared.Mode.{Mode};
+ghost use Rattle.axis_types.specs.declared.Mode.{Mode};
 ghost use Rattle.instant.specs.Instant.{inRange};
-ghost use Rattle.double.specs.Reading.{instantOf};
+ghost use Rattle.axis_types.specs.Reading.{instantOf};
 ghost use Rattle.axis.specs.Axis.{readDoubleOn, readWholeOn};
 ghost use Prim.Native.Nat.{_≤_};
 ghost use lib.ListN.{length};
 ghost use Rattle.runs.specs.Run.{markOf, checked, rounded, overlaid, runCheck, runAnswer, runWritten};
 ghost use Rattle.runs.specs.declared.Check.{Check};
 use axis::Step;
-use axis_record::Axis;
-use double::Reading;
-use period::Mode;
+use axis_types::Axis;
+use axis_types::Mode;
+use axis_types::Reading;
 use refusal::Refusal;
 use step::reached::Part;
 

@@ -5,7 +5,7 @@ ghost use Prim.Native.Nat.{_≤_, _<_};
 ghost use lib.ListN.{length};
 ghost use Rattle.instant.specs.Instant.{inRange};
 ghost use Rattle.step.specs.Closed.{Begun};
-ghost use Rattle.double.specs.Reading.{instantOf, isRead};
+ghost use Rattle.axis_types.specs.Reading.{instantOf, isRead};
 ghost use Rattle.axis.specs.Start.{movedFrom, readPart, byWhole};
 ghost use Rattle.runs.specs.Run.{checked, overlaid};
 ghost use Rattle.runs.specs.declared.Check.{Check};

@@ -9,8 +9,8 @@ use Rattle.grammar.specs.Grammar.{Grammar, give, starts}
 use Rattle.grammar.specs.Reader.{Scanned, found, nothing, front, back, paired, given, nullable, first, scan}
 use Rattle.grammar.specs.Rules.{_⇒_, span, either, spelled}
 use Rattle.grammar.proofs.Steps.{absent, present, give-of, past, past-no, run-all}
-use Rattle.period.specs.declared.Period.{Period}
-use Rattle.period.specs.declared.Mode.{Mode}
+use Rattle.axis_types.specs.declared.Period.{Period}
+use Rattle.axis_types.specs.declared.Mode.{Mode}
 use Rattle.date_text.specs.declared.Written.{Written}
 use Rattle.date_text.specs.DateRule.{date}
 use Rattle.units_text.specs.UnitsRule.{periodWord, spaces, mode, since, unitsOf, units}

@@ -11,8 +11,8 @@ use Rattle.grammar.specs.Reader.{nullable, first, front, back, scan, whole, rea
 use Rattle.grammar.specs.Clear.{extends, outside, apart, clear}
 use Rattle.grammar.specs.Rules.{bytes}
 use Rattle.grammar.proofs.Reading.{reads, derives, refused, underived, single}
-use Rattle.period.specs.declared.Period.{Period}
-use Rattle.period.specs.declared.Mode.{Mode}
+use Rattle.axis_types.specs.declared.Period.{Period}
+use Rattle.axis_types.specs.declared.Mode.{Mode}
 use Rattle.date_text.specs.DateRule.{midnight}
 use Rattle.units_text.specs.declared.Units.{Units}
 use Rattle.units_text.specs.declared.UnitsAnswer.{UnitsAnswer}

@@ -13,7 +13,7 @@ use Rattle.word_table.specs.Table.{lookup}
 use Rattle.word_table.specs.Packed.{packed}
 use Rattle.word_table.proofs.Packed.{span-headed}
 use Rattle.word_table.proofs.Words.{byNumber, lookup-packed, lookup-long, lookup-word}
-use Rattle.period.specs.declared.Period.{Period}
+use Rattle.axis_types.specs.declared.Period.{Period}
 use Rattle.units_text.specs.UnitsRule.{periodWords, periodWord}
 
 -- a word of small letters, by its number

@@ -4,8 +4,8 @@ use mathlib.Core.List.{List}
 use mathlib.Core.Option.{Option, none, some}
 use lib.ListN.{drop}
 use Rattle.grammar.specs.Reader.{Scanned, found, nothing}
-use Rattle.period.specs.declared.Period.{Period}
-use Rattle.period.specs.declared.Mode.{Mode}
+use Rattle.axis_types.specs.declared.Period.{Period}
+use Rattle.axis_types.specs.declared.Mode.{Mode}
 use Rattle.units_text.specs.declared.Units.{Units}
 use Rattle.units_text.specs.declared.Meaning.{Meaning}
 use Rattle.units_text.specs.declared.PeriodAt.{PeriodAt}

@@ -6,9 +6,9 @@ use mathlib.Core.Option.{some}
 use Rattle.grammar.specs.Grammar.{Grammar, run, _▸_, give}
 use Rattle.grammar.specs.Rules.{_⇒_, bytes, range, anyOf, optional, word}
 use Rattle.word_table.specs.Table.{Row, row, lookup}
-use Rattle.period.specs.declared.Period.{Period}
-use Rattle.period.specs.declared.Period.the-variants.{Second, Millisecond, Minute, Hour, Day, Week, Month, Year}
-use Rattle.period.specs.declared.Mode.{Mode}
+use Rattle.axis_types.specs.declared.Period.{Period}
+use Rattle.axis_types.specs.declared.Period.the-variants.{Second, Millisecond, Minute, Hour, Day, Week, Month, Year}
+use Rattle.axis_types.specs.declared.Mode.{Mode}
 use Rattle.date_text.specs.declared.Written.{Written}
 use Rattle.date_text.specs.DateRule.{date}
 use Rattle.units_text.specs.declared.Units.{Units}

@@ -13,6 +13,8 @@ ghost use Rattle.date_text.specs.Answers.{writtenIn};
 ghost use Rattle.word_table.specs.Table.{lookup};
 ghost use Rattle.units_text.specs.UnitsRule.{periodWords, periodWord, spaces, mode, since, units};
 ghost use Rattle.units_text.specs.Answers.{meaningOf, periodIn, modeIn, unitsAnswer};
+use axis_types::Mode;
+use axis_types::Period;
 use date_text::Written;
 use date_text::WrittenAt;
 use date_text::date_at;
@@ -22,8 +24,6 @@ use grammar::run_end;
 use grammar::same_bytes;
 use grammar::starts_in;
 use grammar::word_at;
-use period::Mode;
-use period::Period;
 use word_table::packed_of;
 
 // What a units text says.

@@ -3,9 +3,9 @@ use mathlib.Core.Bool.{false}
 use lib.IntN.{pos}
 use Rattle.refusal.specs.Number.{numberOf}
 use Rattle.refusal.specs.declared.Refusal.{Refusal}
-use Rattle.double.specs.declared.Reading.{Reading}
-use Rattle.fixed_axis.specs.declared.OffsetAnswer.{OffsetAnswer}
-use Rattle.axis_record.specs.declared.Axis.{Axis}
+use Rattle.axis_types.specs.declared.Reading.{Reading}
+use Rattle.axis_types.specs.declared.OffsetAnswer.{OffsetAnswer}
+use Rattle.axis_types.specs.declared.Axis.{Axis}
 use Rattle.codes.specs.declared.CodedAxis.{CodedAxis}
 use Rattle.uppinalo.specs.declared.texts.UppinaloReading.{UppinaloReading}
 use Rattle.uppinalo.specs.declared.offsets.UppinaloOffsetAnswer.{UppinaloOffsetAnswer}

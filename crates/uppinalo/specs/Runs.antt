@@ -4,8 +4,8 @@ use lib.IntN.{ℤ}
 use Rattle.refusal.specs.Number.{numberOf}
 use Rattle.refusal.specs.declared.Refusal.{Refusal}
 use Rattle.instant.specs.Instant.{inRange}
-use Rattle.double.specs.declared.Reading.{Reading}
-use Rattle.axis_record.specs.declared.Axis.{Axis}
+use Rattle.axis_types.specs.declared.Reading.{Reading}
+use Rattle.axis_types.specs.declared.Axis.{Axis}
 use Rattle.runs.specs.Run.{runAnswer, runWritten}
 use Rattle.runs.specs.declared.RunAnswer.{RunAnswer}
 use Rattle.codes.specs.declared.CodedAxis.{CodedAxis}

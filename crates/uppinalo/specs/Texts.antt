@@ -9,7 +9,7 @@ use Rattle.refusal.specs.declared.Refusal.the-variants.{UnknownCalendar}
 use Rattle.instant.specs.declared.InstantAnswer.{InstantAnswer}
 use Rattle.iso_form.specs.declared.LengthAnswer.{LengthAnswer}
 use Rattle.iso_text.specs.Iso.{writeIso, roomIso}
-use Rattle.axis_record.specs.Axis.{zeroAxis}
+use Rattle.axis_types.specs.Zero.{zeroAxis}
 use Rattle.axis_text.specs.declared.AxisAnswer.{AxisAnswer}
 use Rattle.codes.specs.Codes.{axisCode}
 use Rattle.codes.specs.declared.CodedCalendar.{CodedCalendar}

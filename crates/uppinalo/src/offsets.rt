@@ -4,10 +4,10 @@ ghost use Rattle.axis.specs.Axis.{readWholeOn, readDoubleOn, writeInstantOn, wr
 ghost use Rattle.codes.specs.Codes.{axisOf};
 ghost use Rattle.uppinalo.specs.Offsets.{noReading, ofReading, noOffset, ofOffset, readOn, writeOn};
 use crate::texts::UppinaloReading;
+use axis_types::OffsetAnswer;
+use axis_types::Reading;
 use codes::CodedAxis;
 use codes::UppinaloAxis;
-use double::Reading;
-use fixed_axis::OffsetAnswer;
 use instant::Fields;
 use refusal::Refusal;
 

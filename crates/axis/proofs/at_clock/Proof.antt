@@ -10,7 +10,7 @@ use Rattle.calendar.specs.declared.DateAnswer.{DateAnswer}
 use Rattle.calendar.proofs.Existing.{date-eq}
 use Rattle.instant.specs.Instant.{clockTime, instantAnswer}
 use Rattle.instant.specs.declared.InstantAnswer.{InstantAnswer}
-use Rattle.double.specs.declared.Reading.{Reading}
+use Rattle.axis_types.specs.declared.Reading.{Reading}
 use Rattle.axis.specs.Axis.{onDate}
 use Rattle.axis.proofs.Moving.{instantReading, clocked, on-date}
 use borrow.Author.Needs.{needs}

@@ -7,7 +7,7 @@ use Rattle.refusal.specs.declared.Refusal.the-variants.{OutOfRange}
 use Rattle.signed.proofs.Machine.{crossed}
 use Rattle.instant.specs.Instant.{inRange}
 use Rattle.double.specs.Whole.{wholeOf}
-use Rattle.double.specs.declared.Reading.{Reading}
+use Rattle.axis_types.specs.declared.Reading.{Reading}
 use Rattle.double.specs.declared.whole.Whole.{Whole}
 use Rattle.axis.specs.Axis.{stepOf, readStep, asWhole, doubleAsWhole}
 use borrow.Author.Needs.{needs}

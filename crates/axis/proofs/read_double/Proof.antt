@@ -3,7 +3,7 @@ use mathlib.Core.Path.{sym, ap, _∙_}
 use mir.Syntax.{w64}
 use mir.Val.{SFits}
 use mir.ValLaws.{toZ-ofZ}
-use Rattle.period.specs.declared.Mode.{Mode}
+use Rattle.axis_types.specs.declared.Mode.{Mode}
 use Rattle.fixed_axis.specs.Fixed.{readDouble}
 use Rattle.axis.specs.Axis.{doubleAsWhole, doubleIn, readDoubleOn}
 use borrow.Author.Needs.{needs}

@@ -8,7 +8,7 @@ use Rattle.refusal.specs.declared.Refusal.the-variants.{OutOfRange}
 use Rattle.signed.proofs.Machine.{crossed}
 use Rattle.instant.specs.Instant.{inRange, instantAnswer}
 use Rattle.instant.specs.declared.InstantAnswer.{InstantAnswer}
-use Rattle.fixed_axis.specs.declared.OffsetAnswer.{OffsetAnswer}
+use Rattle.axis_types.specs.declared.OffsetAnswer.{OffsetAnswer}
 use Rattle.axis.specs.Axis.{ofInstant, writeInstantOn, writeFieldsOn}
 use borrow.Author.Needs.{needs}
 use Rattle.axis.proofs.write_fields.Statement.{statement}

@@ -10,10 +10,10 @@ use mir.ValLaws.{toZ-ofZ}
 use borrow.Author.Tests.{eq-eqb, ne-eqb}
 use Rattle.refusal.specs.declared.Refusal.the-variants.{Inexact}
 use Rattle.signed.specs.Bias.{lower}
-use Rattle.period.specs.Lengths.{lengthOf}
+use Rattle.axis_types.specs.Lengths.{lengthOf}
 use Rattle.double.specs.Nearest.{withSign}
 use Rattle.fixed_axis.specs.Fixed.{inPeriods}
-use Rattle.fixed_axis.specs.declared.OffsetAnswer.{OffsetAnswer}
+use Rattle.axis_types.specs.declared.OffsetAnswer.{OffsetAnswer}
 use Rattle.fixed_axis.proofs.Range.{sized}
 use Rattle.fixed_axis.proofs.Writing.{half, periods}
 use borrow.Author.Needs.{needs}

@@ -7,9 +7,9 @@ use lib.IntN.{ℤ}
 use mir.Syntax.{w64}
 use mir.ValLaws.{toZ-ofZ}
 use Rattle.signed.specs.Bias.{lower}
-use Rattle.period.specs.Lengths.{lengthOf}
+use Rattle.axis_types.specs.Lengths.{lengthOf}
 use Rattle.instant.specs.Instant.{inRange}
-use Rattle.double.specs.declared.Reading.{Reading}
+use Rattle.axis_types.specs.declared.Reading.{Reading}
 use Rattle.fixed_axis.specs.Fixed.{timeAfter}
 use Rattle.fixed_axis.specs.Closed.{Near}
 use Rattle.fixed_axis.proofs.Range.{near, Sized, sized}

@@ -5,7 +5,7 @@ use mir.Syntax.{w64}
 use mir.Val.{toZ, ofZ}
 use mir.ValLaws.{toZ-ofZ}
 use Rattle.signed.specs.Bias.{lower}
-use Rattle.double.specs.declared.Reading.{Reading}
+use Rattle.axis_types.specs.declared.Reading.{Reading}
 use Rattle.fixed_axis.specs.Closed.{firstInstant, lastInstant}
 use Rattle.fixed_axis.proofs.Joined.{given-bounds, given-reading}
 use borrow.Author.Needs.{needs}

@@ -5,7 +5,7 @@ use Rattle.refusal.specs.declared.Refusal.the-variants.{OutOfRange}
 use Rattle.signed.specs.Bias.{lower}
 use Rattle.signed.proofs.Machine.{crossed}
 use Rattle.instant.specs.Instant.{inRange}
-use Rattle.double.specs.declared.Reading.{Reading}
+use Rattle.axis_types.specs.declared.Reading.{Reading}
 use Rattle.fixed_axis.specs.Fixed.{timeAfter, readingAt, fromReference, readWhole}
 use borrow.Author.Needs.{needs}
 use Rattle.fixed_axis.proofs.read_whole.Statement.{statement}

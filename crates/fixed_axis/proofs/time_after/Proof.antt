@@ -5,7 +5,7 @@ use mir.Syntax.{w64}
 use mir.ValLaws.{toZ-ofZ}
 use Rattle.signed.specs.Bias.{lower}
 use Rattle.signed.proofs.Machine.{crossed}
-use Rattle.period.specs.Lengths.{lengthOf}
+use Rattle.axis_types.specs.Lengths.{lengthOf}
 use Rattle.instant.specs.Instant.{inRange}
 use Rattle.fixed_axis.specs.Closed.{reachOf}
 use Rattle.fixed_axis.specs.Fixed.{timeAfter}

@@ -4,7 +4,7 @@ use Prim.Native.Nat.{ℕ, _+_, _-_, _*_, _≤_, _<_}
 use native.Mathlib.Omega.{arith}
 use lib.IntN.{pos, _+ℤ_, _*ℤ_}
 use Rattle.signed.specs.Bias.{lower}
-use Rattle.period.specs.Lengths.{lengthOf}
+use Rattle.axis_types.specs.Lengths.{lengthOf}
 use Rattle.fixed_axis.proofs.Range.{Sized, sized}
 use Rattle.fixed_axis.proofs.Reading.{step-small, back, time-at}
 use borrow.Author.Needs.{needs}

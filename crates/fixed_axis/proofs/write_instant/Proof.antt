@@ -6,10 +6,10 @@ use Rattle.refusal.specs.declared.Refusal.the-variants.{OutOfRange}
 use Rattle.signed.specs.Bias.{lower}
 use Rattle.signed.proofs.Machine.{crossed}
 use Rattle.signed.proofs.Tests.{both, left-out, right-out}
-use Rattle.period.specs.Lengths.{lengthOf}
+use Rattle.axis_types.specs.Lengths.{lengthOf}
 use Rattle.instant.specs.Instant.{inRange}
 use Rattle.fixed_axis.specs.Fixed.{inPeriods, writeInstant}
-use Rattle.fixed_axis.specs.declared.OffsetAnswer.{OffsetAnswer}
+use Rattle.axis_types.specs.declared.OffsetAnswer.{OffsetAnswer}
 use borrow.Author.Needs.{needs}
 use Rattle.fixed_axis.proofs.write_instant.Statement.{statement}
 use Rattle.fixed_axis.proofs.write_instant.Tie as tie

@@ -5,7 +5,7 @@ use Prim.Native.Nat.{_^_}
 use mathlib.Core.Path.{_≡_, sym, ap, _∙_}
 use lib.ListN.{length}
 use lib.Ieee.{Float}
-use Rattle.axis.specs.declared.Offset.{Offset}
+use Rattle.axis_types.specs.declared.Offset.{Offset}
 use Rattle.offset_text.specs.OffsetRule.{offsetAnswer}
 use Rattle.offset_text.specs.Closed.{numberIn}
 use Rattle.offset_text.specs.declared.OffsetText.{OffsetText}

@@ -6,7 +6,7 @@ use mir.Syntax.{w64}
 use mir.ValLaws.{toZ-ofZ}
 use Rattle.grammar.specs.Reader.{read}
 use Rattle.grammar.specs.Rules.{number}
-use Rattle.axis.specs.declared.Offset.{Offset}
+use Rattle.axis_types.specs.declared.Offset.{Offset}
 use lib.IntN.{ℤ}
 use Rattle.double.proofs.WholeSize.{negated}
 use Rattle.offset_text.specs.OffsetRule.{offsetAnswer}

@@ -2,7 +2,7 @@
 use mathlib.Core.Path.{_≡_, sym, ap, _∙_}
 use mathlib.Core.Bool.{Bool, _&&_}
 use Rattle.axis.specs.Axis.{readDoubleOn}
-use Rattle.double.specs.Reading.{isRead}
+use Rattle.axis_types.specs.Reading.{isRead}
 use borrow.Author.Needs.{needs}
 use Rattle.run_ends.proofs.both_doubles_read.Statement.{statement}
 use Rattle.run_ends.proofs.both_doubles_read.Tie as tie

@@ -4,7 +4,7 @@ use mathlib.Core.Bool.{Bool, _&&_}
 use mir.Syntax.{w64}
 use mir.ValLaws.{toZ-ofZ}
 use Rattle.axis.specs.Axis.{readWholeOn}
-use Rattle.double.specs.Reading.{isRead}
+use Rattle.axis_types.specs.Reading.{isRead}
 use borrow.Author.Needs.{needs}
 use Rattle.run_ends.proofs.both_wholes_read.Statement.{statement}
 use Rattle.run_ends.proofs.both_wholes_read.Tie as tie

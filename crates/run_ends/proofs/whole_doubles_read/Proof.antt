@@ -5,7 +5,7 @@ use mir.Syntax.{w64}
 use mir.Val.{SFits}
 use mir.ValLaws.{toZ-ofZ}
 use Rattle.axis.specs.Axis.{readWholeOn}
-use Rattle.double.specs.Reading.{isRead}
+use Rattle.axis_types.specs.Reading.{isRead}
 use Rattle.run_ends.proofs.Between.{whole-doubles-by-ends}
 use borrow.Author.Needs.{needs}
 use Rattle.run_ends.proofs.whole_doubles_read.Statement.{statement}

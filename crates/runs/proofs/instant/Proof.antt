@@ -2,7 +2,7 @@
 use mathlib.Core.Path.{ap, sym, _∙_}
 use mir.Syntax.{w64}
 use mir.ValLaws.{toZ-ofZ}
-use Rattle.double.specs.Reading.{instantOf}
+use Rattle.axis_types.specs.Reading.{instantOf}
 use borrow.Author.Needs.{needs}
 use Rattle.runs.proofs.instant.Statement.{statement}
 use Rattle.runs.proofs.instant.Tie as tie

@@ -5,7 +5,7 @@ use lib.Ieee.{Float}
 use mir.Syntax.{w64}
 use mir.Val.{SFits, toZ, ofZ}
 use mir.ValLaws.{toZ-ofZ}
-use Rattle.double.specs.declared.Reading.{Reading}
+use Rattle.axis_types.specs.declared.Reading.{Reading}
 use Rattle.fixed_axis.specs.Fixed.{readDouble}
 use Rattle.axis.specs.Axis.{readDoubleOn}
 use Rattle.axis.proofs.Demands.{fixed-double}

@@ -7,7 +7,7 @@ use mir.Syntax.{w64}
 use mir.Val.{SFits, toZ, ofZ}
 use mir.ValLaws.{toZ-ofZ}
 use Rattle.instant.specs.Instant.{inRange}
-use Rattle.double.specs.declared.Reading.{Reading}
+use Rattle.axis_types.specs.declared.Reading.{Reading}
 use Rattle.axis.specs.Axis.{readStep, readDoubleOn}
 use Rattle.axis.specs.Start.{byWhole}
 use Rattle.axis.specs.declared.Step.{Step}

@@ -8,7 +8,7 @@ use Rattle.grammar.specs.Grammar.{inside, within, every, starts}
 use Rattle.grammar.specs.Reader.{given, scan}
 use Rattle.grammar.specs.Rules.{either}
 use Rattle.grammar.specs.declared.EndAt.{EndAt}
-use Rattle.period.specs.declared.Mode.{Mode}
+use Rattle.axis_types.specs.declared.Mode.{Mode}
 use Rattle.units_text.specs.UnitsRule.{mode}
 use Rattle.units_text.proofs.Steps.{mode-none, mode-no, mode-is}
 use Rattle.units_text.proofs.mode_at.Statement.{statement}

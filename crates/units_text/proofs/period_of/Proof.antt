@@ -6,7 +6,7 @@ use Prim.Native.Nat.{ℕ}
 use mathlib.Core.Path.{_≡_, sym, _∙_, refl, ap}
 use mathlib.Core.List.{[], _∷_, List, _++_}
 use Rattle.grammar.specs.Rules.{bytes}
-use Rattle.period.specs.declared.Period.{Period}
+use Rattle.axis_types.specs.declared.Period.{Period}
 use Rattle.word_table.specs.Table.{lookup}
 use Rattle.word_table.proofs.Words.{numbers, byNumber, each-key, no-key}
 use Rattle.units_text.specs.UnitsRule.{alone, plural, periodWords}

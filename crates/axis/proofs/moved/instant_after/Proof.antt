@@ -16,7 +16,7 @@ use Rattle.calendar.proofs.Answering.{date-there}
 use Rattle.calendar.proofs.Range.{Near}
 use Rattle.calendar.proofs.Theorems.{dates-exist}
 use Rattle.instant.proofs.Clock.{answered-near, raised-near, instant-at}
-use Rattle.double.specs.declared.Reading.{Reading}
+use Rattle.axis_types.specs.declared.Reading.{Reading}
 use Rattle.step.specs.Closed.{movedBy}
 use Rattle.axis.specs.Axis.{onDay}
 use Rattle.axis.proofs.Moving.{year-inside}

@@ -3,7 +3,7 @@ use mathlib.Core.Path.{sym, _∙_}
 use Prim.Native.Nat.{_-_}
 use lib.ListN.{length}
 use lib.Ieee.{Float}
-use Rattle.double.specs.declared.Reading.{Reading}
+use Rattle.axis_types.specs.declared.Reading.{Reading}
 use Rattle.axis.specs.Axis.{readDoubleOn}
 use Rattle.runs.proofs.Passes.{Checking, checking-starts, checking-on, checking-stops, checking-ends}
 use borrow.Author.Needs.{needs}

@@ -4,9 +4,9 @@ use mathlib.Core.Bool.{true}
 use lib.IntN.{ℤ}
 use mir.Syntax.{w64}
 use mir.ValLaws.{toZ-ofZ}
-use Rattle.double.specs.Reading.{instantOf, isRead}
+use Rattle.axis_types.specs.Reading.{instantOf, isRead}
 use Rattle.double.specs.Whole.{wholeOf}
-use Rattle.double.specs.declared.Reading.{Reading}
+use Rattle.axis_types.specs.declared.Reading.{Reading}
 use Rattle.double.specs.declared.whole.Whole.{Whole}
 use Rattle.fixed_axis.specs.Fixed.{timeAfter, readWhole}
 use Rattle.fixed_axis.proofs.Offsets.{read-time}

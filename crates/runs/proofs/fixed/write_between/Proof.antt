@@ -8,9 +8,10 @@ use lib.Ieee.{Float}
 use mir.Syntax.{w64}
 use mir.Val.{toZ, ofZ}
 use mir.ValLaws.{toZ-ofZ}
-use Rattle.double.specs.Reading.{Bounds, instantOf}
+use Rattle.axis_types.specs.Reading.{instantOf}
+use Rattle.double.specs.Reading.{Bounds}
 use Rattle.double.specs.Reading.{readDouble as readBetween}
-use Rattle.double.specs.declared.Reading.{Reading}
+use Rattle.axis_types.specs.declared.Reading.{Reading}
 use Rattle.runs.specs.Run.{markOf, rounded, overlaid}
 use Rattle.runs.proofs.Passes.{mark-le, Writing, writing-starts, writing-on, writing-ends, Counting, counting-starts, counting-on, counting-ends}
 use borrow.Author.Needs.{needs}

@@ -7,8 +7,8 @@ use lib.Ieee.{Float, nan}
 use mir.Syntax.{w64}
 use mir.Val.{toZ, ofZ}
 use mir.ValLaws.{toZ-ofZ}
-use Rattle.double.specs.Reading.{isRead}
-use Rattle.double.specs.declared.Reading.{Reading}
+use Rattle.axis_types.specs.Reading.{isRead}
+use Rattle.axis_types.specs.declared.Reading.{Reading}
 use Rattle.fixed_axis.specs.Fixed.{readWhole}
 use Rattle.axis.specs.Start.{byWhole}
 use Rattle.runs.specs.Run.{overlaid}

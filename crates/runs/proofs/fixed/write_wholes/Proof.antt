@@ -8,8 +8,8 @@ use lib.ListN.{length, getD}
 use mir.Syntax.{w64}
 use mir.Val.{toZ, ofZ}
 use mir.ValLaws.{toZ-ofZ}
-use Rattle.double.specs.Reading.{instantOf, isRead}
-use Rattle.double.specs.declared.Reading.{Reading}
+use Rattle.axis_types.specs.Reading.{instantOf, isRead}
+use Rattle.axis_types.specs.declared.Reading.{Reading}
 use Rattle.fixed_axis.specs.Fixed.{timeAfter, readWhole}
 use Rattle.fixed_axis.proofs.Offsets.{read-time}
 use Rattle.runs.specs.Run.{overlaid}

@@ -3,13 +3,13 @@ use mathlib.Core.Path.{_≡_, sym, ap, _∙_}
 use lib.IntN.{ℤ}
 use mir.Syntax.{w64}
 use mir.ValLaws.{toZ-ofZ}
-use Rattle.double.specs.Reading.{instantOf}
+use Rattle.axis_types.specs.Reading.{instantOf}
 use Rattle.double.specs.Whole.{wholeOf}
-use Rattle.double.specs.declared.Reading.{Reading}
+use Rattle.axis_types.specs.declared.Reading.{Reading}
 use Rattle.double.specs.declared.whole.Whole.{Whole}
 use Rattle.axis.specs.Axis.{asWhole}
 use Rattle.axis.specs.Start.{movedFrom}
-use Rattle.double.specs.Reading.{isRead}
+use Rattle.axis_types.specs.Reading.{isRead}
 use borrow.Author.Needs.{needs}
 use Rattle.runs.proofs.stepped.instant_of.Statement.{statement}
 use Rattle.runs.proofs.stepped.instant_of.Tie as tie

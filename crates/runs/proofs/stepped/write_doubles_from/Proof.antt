@@ -5,7 +5,7 @@ use lib.ListN.{length}
 use lib.Ieee.{Float}
 use mir.Syntax.{w64}
 use mir.ValLaws.{toZ-ofZ}
-use Rattle.double.specs.declared.Reading.{Reading}
+use Rattle.axis_types.specs.declared.Reading.{Reading}
 use Rattle.axis.specs.Start.{movedFrom, byWhole}
 use Rattle.runs.proofs.Passes.{read-at, Writing, writing-starts, writing-on, writing-ends}
 use borrow.Author.Needs.{needs}

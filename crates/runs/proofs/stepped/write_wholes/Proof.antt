@@ -5,7 +5,7 @@ use lib.IntN.{ℤ}
 use mir.Syntax.{w64}
 use mir.ValLaws.{toZ-ofZ}
 use Rattle.instant.proofs.Theorems.{time-small}
-use Rattle.double.specs.declared.Reading.{Reading}
+use Rattle.axis_types.specs.declared.Reading.{Reading}
 use Rattle.axis.specs.Start.{StartOf, movedFrom, readPart}
 use Rattle.axis.proofs.Moving.{moved-from}
 use Rattle.runs.specs.Run.{checked, overlaid}

@@ -6,8 +6,8 @@ use lib.IntN.{ℤ, pos}
 use lib.ListN.{length, getD}
 use mir.Syntax.{w64}
 use mir.ValLaws.{toZ-ofZ}
-use Rattle.double.specs.Reading.{instantOf, isRead}
-use Rattle.double.specs.declared.Reading.{Reading}
+use Rattle.axis_types.specs.Reading.{instantOf, isRead}
+use Rattle.axis_types.specs.declared.Reading.{Reading}
 use Rattle.axis.specs.Start.{movedFrom}
 use Rattle.runs.proofs.Passes.{read-at, Writing, writing-starts, writing-on, writing-ends}
 use borrow.Author.Needs.{needs}

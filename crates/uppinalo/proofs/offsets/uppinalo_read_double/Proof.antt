@@ -1,7 +1,7 @@
 -- `uppinalo::offsets::uppinalo_read_double` meets its contract. Assumes nothing.
 use mathlib.Core.Path.{sym, ap, _∙_}
 use Rattle.axis.specs.Axis.{readDoubleOn}
-use Rattle.axis_record.specs.declared.Axis.{Axis}
+use Rattle.axis_types.specs.declared.Axis.{Axis}
 use Rattle.uppinalo.specs.Offsets.{ofReading, readOn}
 use Rattle.codes.specs.declared.CodedAxis.{CodedAxis}
 use borrow.Author.Needs.{needs}

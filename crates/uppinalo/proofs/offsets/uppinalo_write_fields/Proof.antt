@@ -1,7 +1,7 @@
 -- `uppinalo::offsets::uppinalo_write_fields` meets its contract. Assumes nothing.
 use mathlib.Core.Path.{sym, ap, _∙_}
 use Rattle.axis.specs.Axis.{writeFieldsOn}
-use Rattle.axis_record.specs.declared.Axis.{Axis}
+use Rattle.axis_types.specs.declared.Axis.{Axis}
 use Rattle.uppinalo.specs.Offsets.{ofOffset, writeOn}
 use Rattle.codes.specs.declared.CodedAxis.{CodedAxis}
 use borrow.Author.Needs.{needs}

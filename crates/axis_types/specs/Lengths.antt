@@ -1,7 +1,7 @@
 -- Microseconds per period: document 01's table, row by row.
 use Prim.Native.Nat.{ℕ}
-use Rattle.period.specs.declared.Period.{Period}
-use Rattle.period.specs.declared.Period.the-variants.{Second, Millisecond, Minute, Hour, Day, Week, Month, Year}
+use Rattle.axis_types.specs.declared.Period.{Period}
+use Rattle.axis_types.specs.declared.Period.the-variants.{Second, Millisecond, Minute, Hour, Day, Week, Month, Year}
 
 abbrev pub lengthOf : Period → ℕ
 lengthOf Millisecond = 1000

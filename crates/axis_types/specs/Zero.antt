@@ -1,9 +1,9 @@
 -- The zero axis: document 01, "Numbers returned".
 use lib.IntN.{pos}
 use Rattle.calendar.specs.declared.Calendar.{Calendar}
-use Rattle.period.specs.declared.Period.{Period}
-use Rattle.period.specs.declared.Mode.{Mode}
-use Rattle.axis_record.specs.declared.Axis.{Axis}
+use Rattle.axis_types.specs.declared.Period.{Period}
+use Rattle.axis_types.specs.declared.Mode.{Mode}
+use Rattle.axis_types.specs.declared.Axis.{Axis}
 
 abbrev pub zeroAxis : Axis
 zeroAxis = record { calendar = Calendar.Standard; period = Period.Second; mode = Mode.Fixed; reference = pos 0 }
