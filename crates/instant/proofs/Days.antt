@@ -1,14 +1,11 @@
--- The day and the time of an instant that is raised by 2^63, and instants that are far from 1970.
+-- The day and the time of an instant that is raised by 2^63.
 use mathlib.Core.Path.{_≡_, sym, ap, _∙_}
-use mathlib.Core.Bool.{false}
 use Prim.Native.Nat.{ℕ, _+_, _-_, _/_, _%_, _≤_, _<_}
 use native.Mathlib.Omega.{arith}
 use lib.IntN.{ℤ, pos, negsuc}
 use Rattle.signed.specs.Bias.{lower}
 use Rattle.signed.proofs.Differences.{by-sign, sub-low, sub-high}
-use Rattle.calendar.specs.declared.Calendar.{Calendar}
-use Rattle.calendar.proofs.Range.{far-low, far-high}
-use Rattle.instant.specs.Instant.{dayOf, timeOf, inRange}
+use Rattle.instant.specs.Instant.{dayOf, timeOf}
 
 -- 2^63 microseconds are 106751991 days and 14454775808 microseconds
 module _ (k : ℕ) where
@@ -32,12 +29,3 @@ module _ (k : ℕ) where
   pub time-late : 14454775808 ≤ k → (k - 14454775808) % 86400000000 ≡ timeOf (lower k)
   unfolding timeOf
   time-late h = sym (by-sign (λ (z : ℤ). timeOf z ≡ (k - 14454775808) % 86400000000) k 9223372036854775808 (λ g. omega arith) (λ g. omega arith))
-
--- an instant of 2^59 microseconds or more lies past the years of every calendar
-pub far-before : (c : Calendar) (n : ℕ) → 576460752303423488 ≤ n → inRange c (negsuc n) ≡ false
-unfolding dayOf
-far-before c n h = far-low c (n / 86400000000) (omega arith)
-
-pub far-after : (c : Calendar) (n : ℕ) → 576460752303423488 ≤ n → inRange c (pos n) ≡ false
-unfolding dayOf
-far-after c n h = far-high c (n / 86400000000) (omega arith)

@@ -1,7 +1,7 @@
--- The range: the years -9999 to 9999 of a calendar are the instants of an interval, which lies within 2^59 microseconds of 1970.
+-- The range: the years -9999 to 9999 of a calendar are the instants of an interval, which lies within five million days of 1970.
 use mathlib.Core.Path.{_≡_, sym, ap, _∙_, subst}
 use mathlib.Core.Bool.{true, _&&_}
-use Prim.Native.Nat.{ℕ, _+_, _-_, _*_, _/_, _≤_, _<_, _^_}
+use Prim.Native.Nat.{ℕ, _+_, _-_, _*_, _/_, _≤_, _<_}
 use native.Mathlib.Omega.{arith}
 use lib.Dec.{leb}
 use lib.IntN.{ℤ, pos, negsuc}
@@ -51,7 +51,8 @@ between c a t b h g p q =
     let w = and-parts (leZ lo b) (leZ b hi) (sym (range c b) ∙ q) .1 in
     range c t ∙ both (leZ lo t) (leZ t hi) (le-trans lo a t v h) (le-trans t b hi g w)
 
-pub small : (c : Calendar) (t : ℤ) → inRange c t ≡ true → mag t < 2 ^ 59
+-- the range lies within five million days of 1970
+pub small : (c : Calendar) (t : ℤ) → inRange c t ≡ true → mag t < 432000000000000000
 unfolding dayOf
 small c (pos n) h = omega (arith, day-small c (pos (n / 86400000000)) h)
 small c (negsuc n) h = omega (arith, day-small c (negsuc (n / 86400000000)) h)
@@ -59,5 +60,5 @@ small c (negsuc n) h = omega (arith, day-small c (negsuc (n / 86400000000)) h)
 -- the same of an instant that is raised by 2^63
 pub near : (c : Calendar) (t : ℤ) (k : ℕ) → lower k ≡ t → inRange c t ≡ true → (8646911284551352320 ≤ k) × (k < 9799832789158199296)
 near c t k e h =
-    by-sign (λ (z : ℤ). mag z < 2 ^ 59 → (8646911284551352320 ≤ k) × (k < 9799832789158199296)) k 9223372036854775808 (λ g m. (omega arith, omega arith)) (λ g m. (omega arith, omega arith))
-    (subst (λ (z : ℤ). mag z < 2 ^ 59) (sym e) (small c t h))
+    by-sign (λ (z : ℤ). mag z < 432000000000000000 → (8646911284551352320 ≤ k) × (k < 9799832789158199296)) k 9223372036854775808 (λ g m. (omega arith, omega arith)) (λ g m. (omega arith, omega arith))
+    (subst (λ (z : ℤ). mag z < 432000000000000000) (sym e) (small c t h))
