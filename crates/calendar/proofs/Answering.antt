@@ -13,7 +13,7 @@ use Rattle.signed.proofs.Tests.{test-is, and-parts, left-out}
 use Rattle.signed.proofs.Differences.{sub-le, same-diff}
 use Rattle.calendar.specs.Calendar.{dateOf, inYears, exists}
 use Rattle.calendar.specs.Answers.{pickDateAnswer, dateAnswer, dayAnswer}
-use Rattle.calendar.specs.Closed.{base, first, end}
+use Rattle.calendar.specs.Closed.{epochDay, firstDay, endDay}
 use Rattle.calendar.specs.declared.Calendar.{Calendar}
 use Rattle.calendar.specs.declared.Date.{Date}
 use Rattle.calendar.specs.declared.DateAnswer.{DateAnswer}
@@ -31,37 +31,37 @@ module _ (c : Calendar) where
   in-range z h = ap (λ (t : Bool). pickDateAnswer t (DateAnswer.Is (dateOf c z)) (DateAnswer.Refused OutOfRange)) (sym h)
 
   -- the range of a raised day number
-  range-biased : (k : ℕ) → inYears (dateOf c (lower k) .year) ≡ (leb (first c + (9223372036854775808 - base c)) k && leb k (end c - 1 + (9223372036854775808 - base c)))
+  range-biased : (k : ℕ) → inYears (dateOf c (lower k) .year) ≡ (leb (firstDay c + (9223372036854775808 - epochDay c)) k && leb k (endDay c - 1 + (9223372036854775808 - epochDay c)))
   range-biased k =
-      let o = 9223372036854775808 - base c in
-      let low : lowDay c ≡ lower (first c + o) = same-diff (first c) (base c) (first c + o) 9223372036854775808 (omega (arith, small c)) in
-      let high : highDay c ≡ lower (end c - 1 + o) = same-diff (end c - 1) (base c) (end c - 1 + o) 9223372036854775808 (omega (arith, small c)) in
-      range c (lower k) ∙ ((λ i. leZ (low i) (lower k) && leZ (lower k) (high i)) ∙ (λ i. sub-le (first c + o) k 9223372036854775808 i && sub-le k (end c - 1 + o) 9223372036854775808 i))
+      let o = 9223372036854775808 - epochDay c in
+      let low : lowDay c ≡ lower (firstDay c + o) = same-diff (firstDay c) (epochDay c) (firstDay c + o) 9223372036854775808 (omega (arith, small c)) in
+      let high : highDay c ≡ lower (endDay c - 1 + o) = same-diff (endDay c - 1) (epochDay c) (endDay c - 1 + o) 9223372036854775808 (omega (arith, small c)) in
+      range c (lower k) ∙ ((λ i. leZ (low i) (lower k) && leZ (lower k) (high i)) ∙ (λ i. sub-le (firstDay c + o) k 9223372036854775808 i && sub-le k (endDay c - 1 + o) 9223372036854775808 i))
 
   -- the tests that the code makes, with o for the raised day number of the first place
-  module _ (k o : ℕ) (is : o ≡ 9223372036854775808 - base c) where
-    pub years-below : k < first c + o → inYears (dateOf c (lower k) .year) ≡ false
+  module _ (k o : ℕ) (is : o ≡ 9223372036854775808 - epochDay c) where
+    pub years-below : k < firstDay c + o → inYears (dateOf c (lower k) .year) ≡ false
     years-below h =
-        let b = 9223372036854775808 - base c in
-        range-biased k ∙ left-out (leb (first c + b) k) (leb k (end c - 1 + b)) (lt-leb (first c + b) k (omega arith))
+        let b = 9223372036854775808 - epochDay c in
+        range-biased k ∙ left-out (leb (firstDay c + b) k) (leb k (endDay c - 1 + b)) (lt-leb (firstDay c + b) k (omega arith))
 
-    pub years-from : first c + o ≤ k → inYears (dateOf c (lower k) .year) ≡ ltb (k - o) (end c)
+    pub years-from : firstDay c + o ≤ k → inYears (dateOf c (lower k) .year) ≡ ltb (k - o) (endDay c)
     years-from h =
-        let b = 9223372036854775808 - base c in
+        let b = 9223372036854775808 - epochDay c in
         range-biased k
-        ∙ (ap (λ (t : Bool). t && leb k (end c - 1 + b)) (le-leb (first c + b) k (omega arith))
-        ∙ test-is (leb k (end c - 1 + b)) (ltb (k - o) (end c)) (λ e. lt-ltb (k - o) (end c) (omega (arith, small c, leb-true k (end c - 1 + b) e))) (λ e. le-ltb (k - o) (end c) (omega (arith, leb-false k (end c - 1 + b) e))))
+        ∙ (ap (λ (t : Bool). t && leb k (endDay c - 1 + b)) (le-leb (firstDay c + b) k (omega arith))
+        ∙ test-is (leb k (endDay c - 1 + b)) (ltb (k - o) (endDay c)) (λ e. lt-ltb (k - o) (endDay c) (omega (arith, small c, leb-true k (endDay c - 1 + b) e))) (λ e. le-ltb (k - o) (endDay c) (omega (arith, leb-false k (endDay c - 1 + b) e))))
 
     -- a day number of those years, counted from the first place
-    pub years-inside : inYears (dateOf c (lower k) .year) ≡ true → (o ≤ k) × (k - o < end c)
+    pub years-inside : inYears (dateOf c (lower k) .year) ≡ true → (o ≤ k) × (k - o < endDay c)
     years-inside h =
-        let b = 9223372036854775808 - base c in
-        let w = and-parts (leb (first c + b) k) (leb k (end c - 1 + b)) (sym (range-biased k) ∙ h) in
-        let l = leb-true (first c + b) k (w .0) in
-        (omega arith, omega (arith, small c, leb-true k (end c - 1 + b) (w .1)))
+        let b = 9223372036854775808 - epochDay c in
+        let w = and-parts (leb (firstDay c + b) k) (leb k (endDay c - 1 + b)) (sym (range-biased k) ∙ h) in
+        let l = leb-true (firstDay c + b) k (w .0) in
+        (omega arith, omega (arith, small c, leb-true k (endDay c - 1 + b) (w .1)))
 
-    pub place-is : o ≤ k → subℕ (k - o) (base c) ≡ lower k
-    place-is l = same-diff (k - o) (base c) k 9223372036854775808 (omega (arith, small c))
+    pub place-is : o ≤ k → subℕ (k - o) (epochDay c) ≡ lower k
+    place-is l = same-diff (k - o) (epochDay c) k 9223372036854775808 (omega (arith, small c))
 
 -- ---- the day number of a date
 

@@ -9,7 +9,7 @@ use lib.IntN.{pos, subℕ}
 use borrow.Author.Tests.{eqb-true, eqb-false, leb-true, leb-false, ltb-true, ltb-false, lt-ltb, le-leb}
 use Rattle.signed.proofs.Tests.{to-false}
 use Rattle.calendar.specs.Calendar.{monthDays, kind, isStandard, hasYearZero, lastDay, date, dateOf, dropped, exists}
-use Rattle.calendar.specs.Closed.{row, yearStart, monthStart, place, count, Proper, Labelled, yearAt, label, base, late, pickRule, ruleAt, lagAt, dayAt}
+use Rattle.calendar.specs.Closed.{row, yearStart, monthStart, place, count, Proper, Labelled, yearAt, label, epochDay, late, pickRule, ruleAt, lagAt, dayAt}
 use Rattle.calendar.specs.declared.Calendar.{Calendar}
 use Rattle.calendar.specs.declared.Calendar.the-variants.{Standard, ProlepticGregorian, Julian, NoLeap, AllLeap, Day360}
 use Rattle.calendar.specs.declared.rule.Rule.{Rule}
@@ -97,10 +97,10 @@ module _ (c : Calendar) (r : Rule) (y m d o : ℕ) (w : Written c r y m d o) whe
         is = date-eq refl (omega (arith, w .valid .month-low)) (omega (arith, w .valid .day-low));
       }
 
-  plain : Ruled c r → dateOf c (subℕ (yearStart r y + o + 0) (base c)) ≡ date (yearAt (hasYearZero c) y) m d
+  plain : Ruled c r → dateOf c (subℕ (yearStart r y + o + 0) (epochDay c)) ≡ date (yearAt (hasYearZero c) y) m d
   plain h =
       let e : yearStart r y + o + 0 ≡ yearStart r y + o = omega arith in
-      ap (λ (k : ℕ). dateOf c (subℕ k (base c))) e ∙ sym (dated c r h (yearStart r y + o) (date (yearAt (hasYearZero c) y) m d) labelled)
+      ap (λ (k : ℕ). dateOf c (subℕ k (epochDay c))) e ∙ sym (dated c r h (yearStart r y + o) (date (yearAt (hasYearZero c) y) m d) labelled)
 
 -- ---- `standard`, before and after the cutover
 
@@ -179,10 +179,10 @@ written y m d o c v e =
       ordinal = s;
     }
 
-pub numbered : (c : Calendar) (y m d o : ℕ) → Valid c (date (yearAt (hasYearZero c) y) m d) → o ≡ monthStart (kind c (yearAt (hasYearZero c) y)) (m - 1) + (d - 1) → dateOf c (subℕ (dayAt c y o) (base c)) ≡ date (yearAt (hasYearZero c) y) m d
+pub numbered : (c : Calendar) (y m d o : ℕ) → Valid c (date (yearAt (hasYearZero c) y) m d) → o ≡ monthStart (kind c (yearAt (hasYearZero c) y)) (m - 1) + (d - 1) → dateOf c (subℕ (dayAt c y o) (epochDay c)) ≡ date (yearAt (hasYearZero c) y) m d
 numbered c y m d o v e = go c (written y m d o c v e)
   where
-    go : (c : Calendar) → Written c (ruleAt c y o) y m d o → dateOf c (subℕ (dayAt c y o) (base c)) ≡ date (yearAt (hasYearZero c) y) m d
+    go : (c : Calendar) → Written c (ruleAt c y o) y m d o → dateOf c (subℕ (dayAt c y o) (epochDay c)) ≡ date (yearAt (hasYearZero c) y) m d
     go Standard w = standard y m d o (late y o) refl w
     go ProlepticGregorian w = plain ProlepticGregorian Gregorian y m d o w proleptic
     go Julian w = plain Julian FourYearly y m d o w julian

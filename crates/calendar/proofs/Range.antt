@@ -13,7 +13,7 @@ use Rattle.signed.proofs.Tests.{both, and-parts, left-out, right-out, to-false}
 use Rattle.signed.proofs.Order.{le-trans}
 use Rattle.signed.proofs.Differences.{sub-low, sub-high, sub-le, lift-is, above-least, same-diff}
 use Rattle.calendar.specs.Calendar.{hasYearZero, dateOf, inYears}
-use Rattle.calendar.specs.Closed.{yearStart, yearAt, label, base, first, end}
+use Rattle.calendar.specs.Closed.{yearStart, yearAt, label, epochDay, firstDay, endDay}
 use Rattle.calendar.specs.declared.Calendar.{Calendar}
 use Rattle.calendar.specs.declared.Calendar.the-variants.{Standard, ProlepticGregorian, Julian, NoLeap, AllLeap, Day360}
 use Rattle.calendar.specs.declared.Date.{Date}
@@ -46,10 +46,10 @@ year-ge r n y h =
 
 -- the years of a calendar lie in range from day `from` to the day before `to`
 record Ranged (c : Calendar) (from to : ℕ) : Type 0 where
-  bottom : leZ (negsuc 9998) (dateOf c (subℕ 0 (base c)) .year) ≡ false
-  below : (n : ℕ) → n < from → inYears (dateOf c (subℕ n (base c)) .year) ≡ false
-  above : (n : ℕ) → to ≤ n → inYears (dateOf c (subℕ n (base c)) .year) ≡ false
-  within : (n : ℕ) → from ≤ n → n < to → inYears (dateOf c (subℕ n (base c)) .year) ≡ true
+  bottom : leZ (negsuc 9998) (dateOf c (subℕ 0 (epochDay c)) .year) ≡ false
+  below : (n : ℕ) → n < from → inYears (dateOf c (subℕ n (epochDay c)) .year) ≡ false
+  above : (n : ℕ) → to ≤ n → inYears (dateOf c (subℕ n (epochDay c)) .year) ≡ false
+  within : (n : ℕ) → from ≤ n → n < to → inYears (dateOf c (subℕ n (epochDay c)) .year) ≡ true
 
 bottom-at : (z : Bool) → leZ (negsuc 9998) (yearAt z 0) ≡ false
 bottom-at true = refl
@@ -78,7 +78,7 @@ plain c r h =
     z : Bool
     z = hasYearZero c
 
-    named : (n : ℕ) → inYears (dateOf c (subℕ n (base c)) .year) ≡ inYears (yearAt z (at r n .y))
+    named : (n : ℕ) → inYears (dateOf c (subℕ n (epochDay c)) .year) ≡ inYears (yearAt z (at r n .y))
     named n = ap (λ (d : Date). inYears (d .year)) (dates c r h n)
 
 -- the same of the standard calendar, on both sides of the cutover
@@ -109,7 +109,7 @@ standard =
       within = standard-within;
     }
 
-ranged : (c : Calendar) → Ranged c (first c) (end c)
+ranged : (c : Calendar) → Ranged c (firstDay c) (endDay c)
 unfolding yearStart
 ranged Standard = standard
 ranged ProlepticGregorian = plain ProlepticGregorian Gregorian proleptic
@@ -120,7 +120,7 @@ ranged Day360 = plain Day360 Thirty thirty
 
 -- ---- on all of ℤ
 
-pub small : (c : Calendar) → (0 < first c) × ((first c < base c) × ((base c < end c) × ((end c < base c + 5000000) × (base c < 5000000))))
+pub small : (c : Calendar) → (0 < firstDay c) × ((firstDay c < epochDay c) × ((epochDay c < endDay c) × ((endDay c < epochDay c + 5000000) × (epochDay c < 5000000))))
 small Standard = omega arith
 small ProlepticGregorian = omega arith
 small Julian = omega arith
@@ -130,77 +130,77 @@ small Day360 = omega arith
 
 -- the first and the last day number of the years -9999 to 9999
 abbrev pub lowDay : Calendar → ℤ
-lowDay c = subℕ (first c) (base c)
+lowDay c = subℕ (firstDay c) (epochDay c)
 
 abbrev pub highDay : Calendar → ℤ
-highDay c = subℕ (end c - 1) (base c)
+highDay c = subℕ (endDay c - 1) (epochDay c)
 
 -- below the first place
-lowest : (c : Calendar) (z : ℤ) → leZ z (subℕ 0 (base c)) ≡ true → inYears (dateOf c z .year) ≡ false
+lowest : (c : Calendar) (z : ℤ) → leZ z (subℕ 0 (epochDay c)) ≡ true → inYears (dateOf c z .year) ≡ false
 lowest c z h =
     let y = dateOf c z .year in
     let bottom = ranged c .bottom in
     left-out (leZ (negsuc 9998) y) (leZ y (pos 9999))
-    (to-false (leZ (negsuc 9998) y) (λ e. true≢false (sym (le-trans (negsuc 9998) y (dateOf c (subℕ 0 (base c)) .year) e (years-rise c z (subℕ 0 (base c)) h)) ∙ bottom)))
+    (to-false (leZ (negsuc 9998) y) (λ e. true≢false (sym (le-trans (negsuc 9998) y (dateOf c (subℕ 0 (epochDay c)) .year) e (years-rise c z (subℕ 0 (epochDay c)) h)) ∙ bottom)))
 
-range-at : (c : Calendar) (n : ℕ) → inYears (dateOf c (subℕ n (base c)) .year) ≡ (leb (first c) n && leb n (end c - 1))
+range-at : (c : Calendar) (n : ℕ) → inYears (dateOf c (subℕ n (epochDay c)) .year) ≡ (leb (firstDay c) n && leb n (endDay c - 1))
 range-at c n =
-    elim (decLe (first c) n) [
-      | yes h ↦ elim (decLe (end c) n) [
-        | yes g ↦ ranged c .above n g ∙ sym (right-out (leb (first c) n) (leb n (end c - 1)) (lt-leb n (end c - 1) (omega (arith, small c))))
-        | no g ↦ ranged c .within n h (omega arith) ∙ sym (both (leb (first c) n) (leb n (end c - 1)) (le-leb (first c) n h) (le-leb n (end c - 1) (omega arith)))
+    elim (decLe (firstDay c) n) [
+      | yes h ↦ elim (decLe (endDay c) n) [
+        | yes g ↦ ranged c .above n g ∙ sym (right-out (leb (firstDay c) n) (leb n (endDay c - 1)) (lt-leb n (endDay c - 1) (omega (arith, small c))))
+        | no g ↦ ranged c .within n h (omega arith) ∙ sym (both (leb (firstDay c) n) (leb n (endDay c - 1)) (le-leb (firstDay c) n h) (le-leb n (endDay c - 1) (omega arith)))
       ]
-      | no h ↦ ranged c .below n (omega arith) ∙ sym (left-out (leb (first c) n) (leb n (end c - 1)) (lt-leb (first c) n (omega arith)))
+      | no h ↦ ranged c .below n (omega arith) ∙ sym (left-out (leb (firstDay c) n) (leb n (endDay c - 1)) (lt-leb (firstDay c) n (omega arith)))
     ]
 
-range-low : (c : Calendar) (z : ℤ) → leZ z (subℕ 0 (base c)) ≡ true → (leZ (lowDay c) z && leZ z (highDay c)) ≡ false
+range-low : (c : Calendar) (z : ℤ) → leZ z (subℕ 0 (epochDay c)) ≡ true → (leZ (lowDay c) z && leZ z (highDay c)) ≡ false
 range-low c z h =
     left-out (leZ (lowDay c) z) (leZ z (highDay c))
     (to-false (leZ (lowDay c) z) (λ e.
-    let u : leb (first c) 0 ≡ true = sym (sub-le (first c) 0 (base c)) ∙ le-trans (lowDay c) z (subℕ 0 (base c)) e h in
-    omega (arith, small c, leb-true (first c) 0 u)))
+    let u : leb (firstDay c) 0 ≡ true = sym (sub-le (firstDay c) 0 (epochDay c)) ∙ le-trans (lowDay c) z (subℕ 0 (epochDay c)) e h in
+    omega (arith, small c, leb-true (firstDay c) 0 u)))
 
 -- the year of a day's date lies in -9999 to 9999 exactly for the day numbers of this interval
 pub range : (c : Calendar) (z : ℤ) → inYears (dateOf c z .year) ≡ (leZ (lowDay c) z && leZ z (highDay c))
-range c z = go (leZ z (subℕ 0 (base c))) refl
+range c z = go (leZ z (subℕ 0 (epochDay c))) refl
   where
-    go : (t : Bool) → leZ z (subℕ 0 (base c)) ≡ t → inYears (dateOf c z .year) ≡ (leZ (lowDay c) z && leZ z (highDay c))
+    go : (t : Bool) → leZ z (subℕ 0 (epochDay c)) ≡ t → inYears (dateOf c z .year) ≡ (leZ (lowDay c) z && leZ z (highDay c))
     go true h = lowest c z h ∙ sym (range-low c z h)
     go false h =
-        let n = lift z (base c) in
-        let e : subℕ n (base c) ≡ z = lift-is z (base c) (above-least z (base c) h) in
-        (λ i. inYears (dateOf c (sym e i) .year)) ∙ (range-at c n ∙ ((λ i. sym (sub-le (first c) n (base c)) i && sym (sub-le n (end c - 1) (base c)) i) ∙ (λ i. leZ (lowDay c) (e i) && leZ (e i) (highDay c))))
+        let n = lift z (epochDay c) in
+        let e : subℕ n (epochDay c) ≡ z = lift-is z (epochDay c) (above-least z (epochDay c) h) in
+        (λ i. inYears (dateOf c (sym e i) .year)) ∙ (range-at c n ∙ ((λ i. sym (sub-le (firstDay c) n (epochDay c)) i && sym (sub-le n (endDay c - 1) (epochDay c)) i) ∙ (λ i. leZ (lowDay c) (e i) && leZ (e i) (highDay c))))
 
 -- a day number of the interval, counted from the first place
 pub record Inside (c : Calendar) (z : ℤ) : Type 0 where
   pub number : ℕ
-  pub is : subℕ number (base c) ≡ z
-  pub from : first c ≤ number
-  pub to : number < end c
+  pub is : subℕ number (epochDay c) ≡ z
+  pub from : firstDay c ≤ number
+  pub to : number < endDay c
 
 pub inside-of : (c : Calendar) (z : ℤ) → inYears (dateOf c z .year) ≡ true → Inside c z
-inside-of c z h = go (leZ z (subℕ 0 (base c))) refl
+inside-of c z h = go (leZ z (subℕ 0 (epochDay c))) refl
   where
-    go : (t : Bool) → leZ z (subℕ 0 (base c)) ≡ t → Inside c z
+    go : (t : Bool) → leZ z (subℕ 0 (epochDay c)) ≡ t → Inside c z
     go true e = absurd (true≢false (sym h ∙ lowest c z e))
     go false e =
-        let n = lift z (base c) in
-        let is : subℕ n (base c) ≡ z = lift-is z (base c) (above-least z (base c) e) in
-        let w = and-parts (leb (first c) n) (leb n (end c - 1)) (sym (range-at c n) ∙ ((λ i. inYears (dateOf c (is i) .year)) ∙ h)) in
-        record { number = n; is = is; from = leb-true (first c) n (w .0); to = omega (arith, small c, leb-true n (end c - 1) (w .1)) }
+        let n = lift z (epochDay c) in
+        let is : subℕ n (epochDay c) ≡ z = lift-is z (epochDay c) (above-least z (epochDay c) e) in
+        let w = and-parts (leb (firstDay c) n) (leb n (endDay c - 1)) (sym (range-at c n) ∙ ((λ i. inYears (dateOf c (is i) .year)) ∙ h)) in
+        record { number = n; is = is; from = leb-true (firstDay c) n (w .0); to = omega (arith, small c, leb-true n (endDay c - 1) (w .1)) }
 
 -- day numbers far from 1970
 pub far-low : (c : Calendar) (n : ℕ) → 5000000 ≤ n → inYears (dateOf c (negsuc n) .year) ≡ false
 far-low c n h =
     range c (negsuc n)
     ∙ left-out (leZ (lowDay c) (negsuc n)) (leZ (negsuc n) (highDay c))
-    (ap (λ (z : ℤ). leZ z (negsuc n)) (sub-low (first c) (base c) (omega (arith, small c))) ∙ lt-leb n (base c - suc (first c)) (omega (arith, small c)))
+    (ap (λ (z : ℤ). leZ z (negsuc n)) (sub-low (firstDay c) (epochDay c) (omega (arith, small c))) ∙ lt-leb n (epochDay c - suc (firstDay c)) (omega (arith, small c)))
 
 pub far-high : (c : Calendar) (n : ℕ) → 5000000 ≤ n → inYears (dateOf c (pos n) .year) ≡ false
 far-high c n h =
     range c (pos n)
     ∙ right-out (leZ (lowDay c) (pos n)) (leZ (pos n) (highDay c))
-    (ap (leZ (pos n)) (sub-high (end c - 1) (base c) (omega (arith, small c))) ∙ lt-leb n (end c - 1 - base c) (omega (arith, small c)))
+    (ap (leZ (pos n)) (sub-high (endDay c - 1) (epochDay c) (omega (arith, small c))) ∙ lt-leb n (endDay c - 1 - epochDay c) (omega (arith, small c)))
 
 -- and those that are not: n - 5000000 for some n below ten million
 pub record Near (z : ℤ) : Type 0 where
@@ -211,5 +211,5 @@ pub record Near (z : ℤ) : Type 0 where
 pub near : (c : Calendar) (z : ℤ) → inYears (dateOf c z .year) ≡ true → Near z
 near c z h =
     let k = inside-of c z h in
-    let n = k .number + (5000000 - base c) in
-    record { number = n; is = same-diff n 5000000 (k .number) (base c) (omega (arith, small c)) ∙ k .is; low = omega (arith, small c, k .to) }
+    let n = k .number + (5000000 - epochDay c) in
+    record { number = n; is = same-diff n 5000000 (k .number) (epochDay c) (omega (arith, small c)) ∙ k .is; low = omega (arith, small c, k .to) }

@@ -13,7 +13,7 @@ use Rattle.signed.proofs.Differences.{sub-low, sub-high}
 use Rattle.calendar.specs.Calendar.{hasYearZero, isYear, kind, next, prev, dateOf, exists, inYears, date}
 use Rattle.calendar.specs.Order.{earlier}
 use Rattle.calendar.specs.Answers.{dayNumber, dayAnswer, pickDayAnswer}
-use Rattle.calendar.specs.Closed.{yearAt, monthStart, dayAt, base}
+use Rattle.calendar.specs.Closed.{yearAt, monthStart, dayAt, epochDay}
 use Rattle.calendar.specs.declared.Calendar.{Calendar}
 use Rattle.calendar.specs.declared.Date.{Date}
 use Rattle.calendar.specs.declared.DayAnswer.{DayAnswer}
@@ -77,7 +77,7 @@ module _ (c : Calendar) where
       let y = count-of (hasYearZero c) (x .year) h (valid-year c x v) in
       let e : x ≡ date (yearAt (hasYearZero c) (y .count)) (x .month) (x .day) = date-eq (sym (y .is)) refl refl in
       let o = monthStart (kind c (yearAt (hasYearZero c) (y .count))) (x .month - 1) + (x .day - 1) in
-      let z = subℕ (dayAt c (y .count) o) (base c) in
+      let z = subℕ (dayAt c (y .count) o) (epochDay c) in
       let f : dateOf c z ≡ x = numbered c (y .count) (x .month) (x .day) o (subst (Valid c) e v) refl ∙ sym e in
       ap (dateOf c) (number-is c x z h f) ∙ f
 

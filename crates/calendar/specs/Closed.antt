@@ -101,31 +101,31 @@ pub record Labelled (z : Bool) (r : Rule) (n : ℕ) (d : Date) : Type 0 where
 -- ---- each calendar's numbers, in days from place 0 0 0 of its rule (of the Julian rule for `standard`)
 
 -- 1970-01-01
-abbrev pub base : Calendar → ℕ
-base Standard = 4372030
-base ProlepticGregorian = 4371953
-base Julian = 4372043
-base NoLeap = 4369050
-base AllLeap = 4381020
-base Day360 = 4309200
+abbrev pub epochDay : Calendar → ℕ
+epochDay Standard = 4372030
+epochDay ProlepticGregorian = 4371953
+epochDay Julian = 4372043
+epochDay NoLeap = 4369050
+epochDay AllLeap = 4381020
+epochDay Day360 = 4309200
 
 -- the first day of year -9999
-abbrev pub first : Calendar → ℕ
-first Standard = 731
-first ProlepticGregorian = 366
-first Julian = 366
-first NoLeap = 365
-first AllLeap = 366
-first Day360 = 360
+abbrev pub firstDay : Calendar → ℕ
+firstDay Standard = 731
+firstDay ProlepticGregorian = 366
+firstDay Julian = 366
+firstDay NoLeap = 365
+firstDay AllLeap = 366
+firstDay Day360 = 360
 
 -- the first day of year 10000
-abbrev pub end : Calendar → ℕ
-end Standard = 7304927
-end ProlepticGregorian = 7304850
-end Julian = 7305000
-end NoLeap = 7300000
-end AllLeap = 7320000
-end Day360 = 7200000
+abbrev pub endDay : Calendar → ℕ
+endDay Standard = 7304927
+endDay ProlepticGregorian = 7304850
+endDay Julian = 7305000
+endDay NoLeap = 7300000
+endDay AllLeap = 7320000
+endDay Day360 = 7200000
 
 -- 1582-10-15 of `standard`; from there on its days are those of the Gregorian rule, which has counted 77 days fewer
 abbrev pub cutover : ℕ

@@ -3,7 +3,7 @@ ghost use mathlib.Core.Path.{_≡_};
 ghost use Prim.Native.Nat.{_<_, _^_};
 ghost use lib.IntN.{subℕ};
 ghost use Rattle.calendar.specs.Calendar.{dateOf};
-ghost use Rattle.calendar.specs.Closed.{yearAt, Labelled, base};
+ghost use Rattle.calendar.specs.Closed.{yearAt, Labelled, epochDay};
 use crate::Calendar;
 use crate::Date;
 use crate::place;
@@ -39,7 +39,7 @@ fn date_by_rule(zero: bool, r: Rule, n: u64) -> Date
 // The date of day n of a calendar.
 pub fn date_at(c: Calendar, n: u64) -> Date
     requires { ⌜ n < 2 ^ 30 ⌝ }
-    ensures { λ d. ⌜ d ≡ dateOf c (subℕ n (base c)) ⌝ }
+    ensures { λ d. ⌜ d ≡ dateOf c (subℕ n (epochDay c)) ⌝ }
 {
     match c {
         Calendar::Standard => {

@@ -6,7 +6,7 @@ ghost use Prim.Native.Nat.{_-_, _≤_};
 ghost use Rattle.signed.specs.Bias.{lower};
 ghost use Rattle.calendar.specs.Answers.{dateAnswer, dayAnswer};
 ghost use Rattle.calendar.specs.Calendar.{hasYearZero, inYears, dateOf};
-ghost use Rattle.calendar.specs.Closed.{base, first, end, Counted};
+ghost use Rattle.calendar.specs.Closed.{epochDay, firstDay, endDay, Counted};
 use refusal::Refusal;
 
 pub mod civil;
@@ -46,7 +46,7 @@ pub enum DayAnswer {
 
 // 2^63 less the days from place 0 0 0 to 1970-01-01.
 fn origin(c: Calendar) -> u64
-    ensures { λ r. ⌜ r ≡ 9223372036854775808 - base c ⌝ }
+    ensures { λ r. ⌜ r ≡ 9223372036854775808 - epochDay c ⌝ }
 {
     match c {
         Calendar::Standard => return 0x8000_0000_0000_0000 - 4372030,
@@ -58,9 +58,23 @@ fn origin(c: Calendar) -> u64
     }
 }
 
+// The days from place 0 0 0 to 1970-01-01.
+pub fn epoch_day(c: Calendar) -> u64
+    ensures { λ r. ⌜ r ≡ epochDay c ⌝ }
+{
+    match c {
+        Calendar::Standard => return 4372030,
+        Calendar::ProlepticGregorian => return 4371953,
+        Calendar::Julian => return 4372043,
+        Calendar::NoLeap => return 4369050,
+        Calendar::AllLeap => return 4381020,
+        Calendar::Day360 => return 4309200,
+    }
+}
+
 // The first day of year -9999.
-fn first_day(c: Calendar) -> u64
-    ensures { λ r. ⌜ r ≡ first c ⌝ }
+pub fn first_day(c: Calendar) -> u64
+    ensures { λ r. ⌜ r ≡ firstDay c ⌝ }
 {
     match c {
         Calendar::Standard => return 731,
@@ -73,8 +87,8 @@ fn first_day(c: Calendar) -> u64
 }
 
 // The first day of year 10000.
-fn end_day(c: Calendar) -> u64
-    ensures { λ r. ⌜ r ≡ end c ⌝ }
+pub fn end_day(c: Calendar) -> u64
+    ensures { λ r. ⌜ r ≡ endDay c ⌝ }
 {
     match c {
         Calendar::Standard => return 7304927,

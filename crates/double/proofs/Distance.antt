@@ -14,8 +14,7 @@ use lib.Ieee.Nearest.{closest}
 use Rattle.rounding.specs.Rounding.{isExact}
 use Rattle.rounding.proofs.Closest.{closest-is, is-closest, eqb-iff}
 use Rattle.signed.proofs.Integers.{plus-minus, plus-difference, cancelled, over-sum, neg-times, dist, abs-neg, abs-diff}
-use Rattle.double.specs.Nearest.{withSign, exactSize, distance, IsNearest}
-use Rattle.double.specs.Reading.{nearestCount}
+use Rattle.double.specs.Nearest.{withSign, exactSize, distance, IsNearest, nearestSize, nearestCount}
 
 -- ---- d times the distance of a displacement w from ± a / d
 abbrev off : Bool → ℕ → ℕ → ℤ → ℕ
@@ -112,7 +111,7 @@ module _ (R : ℤ) (P : ℕ) (s : Bool) (m : ℕ) (e : ℤ) where
   d = down e
 
   abbrev size : ℕ
-  size = closest (exactSize P m e) (down e)
+  size = nearestSize P m e
 
   abbrev count : ℤ
   count = nearestCount R P s m e

@@ -1,10 +1,8 @@
-pub mod Demands
-pub mod Examples
 pub mod Distance
 pub mod Order
-pub mod Reader
-pub mod Range
+pub mod Examples
 pub mod Scaling
 pub mod Significand
-pub mod Pattern
+pub mod Bits
 pub mod WholeSize
+pub mod Values

@@ -13,12 +13,7 @@ use lib.Ieee.Fits.{down-pos, and-l, and-r}
 use lib.Ieee.Nearest.{closest, closest-mono}
 use Rattle.rounding.proofs.Closest.{below-half}
 use Rattle.signed.proofs.Integers.{mono, neg-le, neg-le-pos}
-use Rattle.double.specs.Nearest.{withSign, exactSize}
-use Rattle.double.specs.Reading.{nearestCount}
-
--- the rounded size of the displacement
-abbrev pub roundedSize : ℕ → ℕ → ℤ → ℕ
-roundedSize P m e = closest (exactSize P m e) (down e)
+use Rattle.double.specs.Nearest.{withSign, nearestSize, nearestCount}
 
 either : (p q : Bool) → T (p || q) → T p ⊎ T q
 either true q h = inl tt
@@ -28,12 +23,12 @@ le-from : (a b : ℕ) (t : Bool) → (T t → a ≡ b) → T (ltb a b || (t && t
 le-from a b t f h = elim (either (ltb a b) (t && true) h) [ inl u ↦ le-of-lt (ltb→lt a b u) | inr u ↦ le-of-eq (f (and-l t true u)) ]
 
 module _ (P m : ℕ) (e : ℤ) (n : ℕ) (d : ℤ) where
-  size-le : m * up e * down d ≤ n * up d * down e → roundedSize P m e ≤ roundedSize P n d
+  size-le : m * up e * down d ≤ n * up d * down e → nearestSize P m e ≤ nearestSize P n d
   size-le h =
       closest-mono (m * up e * P) (down e) (n * up d * P) (down d) (down-pos e) (down-pos d)
       (le-trans (le-of-eq (mul-right-comm (m * up e) P (down d))) (le-trans (mul-le-mul-right P h) (le-of-eq (mul-right-comm (n * up d) (down e) P))))
 
-  pub size-none : m * up e * down d ≡ 0 → roundedSize P m e ≡ 0
+  pub size-none : m * up e * down d ≡ 0 → nearestSize P m e ≡ 0
   size-none h =
       let k : m * up e ≡ 0 = eq-of-mul-eq-mul-right (down d) (down-pos d) (m * up e) 0 (h ∙ sym (zero-mul (down d))) in
       ap (λ (x : ℕ). closest (x * P) (down e)) k ∙ sym (below-half (0 * P) (down e) (go P (down e) (down-pos e)))
@@ -42,24 +37,24 @@ module _ (P m : ℕ) (e : ℤ) (n : ℕ) (d : ℤ) where
       go P d h = omega arith
 
 -- by the two signs; -0 and +0 are equal
-signed-mono : (P : ℕ) (s : Bool) (m : ℕ) (e : ℤ) (t : Bool) (n : ℕ) (d : ℤ) → T (le (fin s m e) (fin t n d)) → T (leZ (withSign s (roundedSize P m e)) (withSign t (roundedSize P n d)))
+signed-mono : (P : ℕ) (s : Bool) (m : ℕ) (e : ℤ) (t : Bool) (n : ℕ) (d : ℤ) → T (le (fin s m e) (fin t n d)) → T (leZ (withSign s (nearestSize P m e)) (withSign t (nearestSize P n d)))
 unfolding le lt eq
 signed-mono P false m e false n d h =
     let a = m * up e * down d in
     let b = n * up d * down e in
-    le→leb (roundedSize P m e) (roundedSize P n d) (size-le P m e n d (le-from a b (eqb a b) (λ q. eqb→eq a b q) h))
-signed-mono P true m e false n d h = neg-le-pos (roundedSize P m e) (roundedSize P n d)
+    le→leb (nearestSize P m e) (nearestSize P n d) (size-le P m e n d (le-from a b (eqb a b) (λ q. eqb→eq a b q) h))
+signed-mono P true m e false n d h = neg-le-pos (nearestSize P m e) (nearestSize P n d)
 signed-mono P true m e true n d h =
     let a = m * up e * down d in
     let b = n * up d * down e in
-    neg-le (roundedSize P m e) (roundedSize P n d) (size-le P n d m e (le-from b a (eqb a b) (λ q. sym (eqb→eq a b q)) h))
+    neg-le (nearestSize P m e) (nearestSize P n d) (size-le P n d m e (le-from b a (eqb a b) (λ q. sym (eqb→eq a b q)) h))
 signed-mono P false m e true n d h =
     let a = m * up e * down d in
     let b = n * up d * down e in
     let i : a ≡ b = eqb→eq a b (and-l (eqb a b) (eqb a 0) h) in
     let j : a ≡ 0 = eqb→eq a 0 (and-r (eqb a b) (eqb a 0) h) in
-    subst (λ (x : ℕ). T (leZ (pos x) (negℤ (pos (roundedSize P n d))))) (sym (size-none P m e n d j))
+    subst (λ (x : ℕ). T (leZ (pos x) (negℤ (pos (nearestSize P n d))))) (sym (size-none P m e n d j))
     (subst (λ (x : ℕ). T (leZ (pos 0) (negℤ (pos x)))) (sym (size-none P n d m e (sym i ∙ j))) tt)
 
 pub count-mono : (R : ℤ) (P : ℕ) (s : Bool) (m : ℕ) (e : ℤ) (t : Bool) (n : ℕ) (d : ℤ) → T (le (fin s m e) (fin t n d)) → T (leZ (nearestCount R P s m e) (nearestCount R P t n d))
-count-mono R P s m e t n d h = mono R (withSign s (roundedSize P m e)) (withSign t (roundedSize P n d)) (signed-mono P s m e t n d h)
+count-mono R P s m e t n d h = mono R (withSign s (nearestSize P m e)) (withSign t (nearestSize P n d)) (signed-mono P s m e t n d h)

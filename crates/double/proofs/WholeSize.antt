@@ -23,7 +23,7 @@ use Rattle.double.specs.Nearest.{withSign}
 use Rattle.double.specs.Whole.{in64, wholeOf}
 use Rattle.double.specs.Fields.{SizeOf, WholeSize}
 use Rattle.double.proofs.Significand.{leading-comm, leading-lt, size-lt, size-zero, zero-size}
-use Rattle.double.proofs.Pattern.{signOf, fieldOf, digitsOf, sizeOf, value, not-finite}
+use Rattle.double.proofs.Bits.{signOf, fieldOf, digitsOf, sizeOf, value, not-finite}
 
 -- ---- numbers of 64 bits
 pub in64-yes : (z : ℤ) → mag z < 2 ^ 63 → Is z ≡ in64 z

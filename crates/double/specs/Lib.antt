@@ -1,4 +1,4 @@
 pub mod Nearest
-pub mod Reading
+pub mod Displacement
 pub mod Whole
 pub mod Fields

@@ -6,6 +6,7 @@ use mathlib.Core.Bool.{Bool, cond}
 use Prim.Native.Nat.{ℕ, _*_, _≤_, _%_}
 use lib.IntN.{ℤ, pos, negℤ, natAbs, _+ℤ_, _-ℤ_, _*ℤ_}
 use lib.Ieee.{up, down}
+use lib.Ieee.Nearest.{closest}
 
 -- n with a sign. Minus zero is zero
 abbrev pub withSign : Bool → ℕ → ℤ
@@ -23,3 +24,13 @@ distance R P s m e z = natAbs (R *ℤ pos (down e) +ℤ withSign s (exactSize P 
 pub record IsNearest (R : ℤ) (P : ℕ) (s : Bool) (m : ℕ) (e z : ℤ) : Type 0 where
   pub closest-of-all : (z' : ℤ) → distance R P s m e z ≤ distance R P s m e z'
   pub even-of-two : (z' : ℤ) → distance R P s m e z ≡ distance R P s m e z' → (z ≡ z' → ⊥) → natAbs (z -ℤ R) % 2 ≡ 0
+
+-- ---- the nearest count, as it is computed: the exact displacement rounded to a whole number, a tie to the even one. proofs/Distance.antt proves that it is the nearest, and the only one
+abbrev pub nearestSize : ℕ → ℕ → ℤ → ℕ
+nearestSize P m e = closest (exactSize P m e) (down e)
+
+abbrev pub nearestDisplacement : ℕ → Bool → ℕ → ℤ → ℤ
+nearestDisplacement P s m e = withSign s (nearestSize P m e)
+
+abbrev pub nearestCount : ℤ → ℕ → Bool → ℕ → ℤ → ℤ
+nearestCount R P s m e = R +ℤ nearestDisplacement P s m e

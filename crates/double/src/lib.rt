@@ -1,92 +1,132 @@
-// A double read on a fixed axis by its exact value: the count of microseconds nearest to reference + x * micros, a tie
-// to the even displacement, and whether it is that time itself. A reader may rely on `readDouble` of specs/Reading.antt
-// and on the theorems about it in proofs/Demands.antt. No step of it is a floating-point operation.
+// Doubles by their exact value, with no floating-point operation: on a fixed axis the displacement in microseconds that is nearest to a
+// number of periods, a tie to the even one, and whether nothing was rounded; as a whole offset in module `whole`. A reader may rely on
+// specs/Displacement.antt and on the theorems about it in proofs/Distance.antt and proofs/Order.antt.
 ghost use mathlib.Core.Path.{_≡_};
-ghost use Prim.Native.Nat.{_^_, _≤_, _<_};
-ghost use lib.IntN.{_+ℤ_};
-ghost use lib.Signed.{mag};
+ghost use mathlib.Core.Bool.{not};
+ghost use Prim.Native.Nat.{_+_, _*_, _^_, _<_};
+ghost use lib.Dec.{T};
+ghost use lib.Ieee.{isNan};
+ghost use Rattle.rounding.specs.Rounding.{RoundedTo};
 ghost use Rattle.double.specs.Nearest.{withSign};
-ghost use Rattle.double.specs.Reading.{Bounds, readDouble, ranged};
-ghost use Rattle.double.specs.Fields.{Scaling, ScaledTo};
-use axis_types::Reading;
-use refusal::Refusal;
-use rounding::Quotient;
+ghost use Rattle.double.specs.Displacement.{IsScale, IsSmall, DisplacementOf, AnswerOf};
+ghost use Rattle.double.specs.Fields.{patternOf, fieldSize};
+use rounding::Rounded;
 
 pub mod whole;
 
-// The size of a finite double, by the fields of its pattern, times a period, rounded. From 2^51 on it is large with
-// every period; below 2^-48 it is less than half a microsecond.
-fn scale(field: u64, digits: u64, micros: u64) -> Quotient
-    requires { ⌜ Scaling field digits micros ⌝ }
-    ensures { λ r. ⌜ ScaledTo r field digits micros ⌝ }
+// A displacement in microseconds, and whether nothing was rounded.
+pub struct Displacement {
+    pub count: i64,
+    pub exact: bool,
+}
+
+// The displacement of a double, or that it is 2^60 microseconds or more, or that the double is no finite number.
+pub enum DisplacementAnswer {
+    Is(Displacement),
+    Large,
+    NotFinite,
+}
+
+// The length of a period in microseconds, and the same as factor / 2^shift, with a factor from 2^62 on.
+pub struct Scale {
+    pub micros: u64,
+    pub factor: u64,
+    pub shift: u64,
+}
+
+pub fn scale_of(micros: u64) -> Scale
+    requires { ⌜ (0 < micros) × (micros < 2 ^ 63) ⌝ }
+    ensures { λ s. ⌜ (s .micros ≡ micros) × IsScale s ⌝ }
 {
-    if 1074 <= field {
-        return Quotient::Large;
+    let shift = (u64::leading_zeros(micros) as u64) - 1;
+    Scale {
+        micros,
+        factor: micros << shift,
+        shift,
     }
-    if field < 975 {
-        return Quotient::Count {
+}
+
+// The fields of a double's bit pattern: the sign, the exponent's field, and the digits below the leading one.
+pub struct Pattern {
+    pub negative: bool,
+    pub field: u64,
+    pub digits: u64,
+}
+
+pub fn pattern_of(x: f64) -> Pattern
+    requires { ⌜ T (not (isNan x)) ⌝ }
+    ensures { λ p. ⌜ p ≡ patternOf x ⌝ }
+{
+    let bits = f64::to_bits(x);
+    Pattern {
+        negative: bits >= 0x8000_0000_0000_0000,
+        field: (bits / 0x10_0000_0000_0000) % 2048,
+        digits: bits % 0x10_0000_0000_0000,
+    }
+}
+
+// The size of a finite double times a period, rounded. A low exponent makes it less than half a microsecond.
+fn scaled_size(field: u64, digits: u64, scale: Scale) -> Rounded
+    requires scaled { ⌜ IsScale scale ⌝ }
+    requires near { ⌜ (field < 1021 + scale .shift) × (digits < 2 ^ 52) ⌝ }
+    ensures { λ r. ⌜ RoundedTo r (fieldSize field digits * scale .micros) (2 ^ 1074) ⌝ }
+{
+    if field + 63 < 1021 + scale.shift {
+        return Rounded {
             count: 0,
             exact: field + digits == 0,
         };
     }
-    let w = rounding::product(digits + 0x10_0000_0000_0000, micros);
+    let w = rounding::product((digits + 0x10_0000_0000_0000) * 1024, scale.factor);
     let high = w.high;
     let low = w.low;
-    rounding::round_shift_wide(high, low, 1075 - field)
+    rounding::round_high(high, low, 1021 + scale.shift - field)
 }
 
-// The count that lies `size` after the reference, or before it.
-fn displaced(reference: i64, size: u64, negative: bool) -> i64
-    requires { ⌜ (mag reference < 2 ^ 59) × (size ≤ 2 ^ 62) ⌝ }
-    ensures { λ r. ⌜ r ≡ reference +ℤ withSign negative size ⌝ }
+// A size with its sign.
+pub fn signed_size(negative: bool, n: u64) -> i64
+    requires { ⌜ n < 2 ^ 63 ⌝ }
+    ensures { λ z. ⌜ z ≡ withSign negative n ⌝ }
 {
     if negative {
-        reference - (size as i64)
+        signed::unbiased(0x8000_0000_0000_0000 - n)
     } else {
-        reference + (size as i64)
+        signed::unbiased(0x8000_0000_0000_0000 + n)
     }
 }
 
-// The count where it lies in the range.
-fn in_range(lo: i64, hi: i64, at: i64, exact: bool) -> Reading
-    ensures { λ r. ⌜ r ≡ ranged lo hi at exact ⌝ }
+// The nearest displacement of a finite double whose size is known to be less than 2^60: no test of it is left.
+pub fn small_displacement(scale: Scale, x: f64) -> Displacement
+    requires scaled { ⌜ IsScale scale ⌝ }
+    requires small { ⌜ IsSmall (scale .micros) x ⌝ }
+    ensures { λ d. ⌜ DisplacementOf d (scale .micros) x ⌝ }
 {
-    if at < lo {
-        return Reading::Refused(Refusal::OutOfRange);
+    let p = pattern_of(x);
+    let r = scaled_size(p.field, p.digits, scale);
+    Displacement {
+        count: signed_size(p.negative, r.count),
+        exact: r.exact,
     }
-    if hi < at {
-        return Reading::Refused(Refusal::OutOfRange);
-    }
-    Reading::At(at, exact)
 }
 
-// The reading of x. Its pattern holds the sign, the exponent's field and the digits; a field of all ones is an
-// infinity's.
-pub fn read_double(lo: i64, hi: i64, reference: i64, micros: u64, x: f64) -> Reading
-    requires { ⌜ Bounds lo hi micros ⌝ }
-    ensures { λ r. ⌜ r ≡ readDouble lo hi reference micros x ⌝ }
+// The nearest displacement of any double. A field of all ones is an infinity's.
+pub fn displacement_of(scale: Scale, x: f64) -> DisplacementAnswer
+    requires { ⌜ IsScale scale ⌝ }
+    ensures { λ a. ⌜ AnswerOf a (scale .micros) x ⌝ }
 {
-    if reference < lo {
-        return Reading::Refused(Refusal::OutOfRange);
-    }
-    if hi < reference {
-        return Reading::Refused(Refusal::OutOfRange);
-    }
     if x != x {
-        return Reading::Refused(Refusal::NotFinite);
+        return DisplacementAnswer::NotFinite;
     }
-    let bits = f64::to_bits(x);
-    let field = (bits / 0x10_0000_0000_0000) % 2048;
-    let digits = bits % 0x10_0000_0000_0000;
-    if field == 2047 {
-        return Reading::Refused(Refusal::NotFinite);
+    let p = pattern_of(x);
+    if p.field == 2047 {
+        return DisplacementAnswer::NotFinite;
     }
-    let q = scale(field, digits, micros);
-    match q {
-        Quotient::Large => Reading::Refused(Refusal::OutOfRange),
-        Quotient::Count { count, exact } => {
-            let at = displaced(reference, count, bits >= 0x8000_0000_0000_0000);
-            in_range(lo, hi, at, exact)
-        }
+    if 1021 + scale.shift <= p.field {
+        return DisplacementAnswer::Large;
     }
+    let r = scaled_size(p.field, p.digits, scale);
+    DisplacementAnswer::Is(Displacement {
+        count: signed_size(p.negative, r.count),
+        exact: r.exact,
+    })
 }

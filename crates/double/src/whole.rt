@@ -68,15 +68,13 @@ pub fn whole_of(x: f64) -> Whole
     if x != x {
         return Whole::Refused(Refusal::NotFinite);
     }
-    let bits = f64::to_bits(x);
-    let field = (bits / 0x10_0000_0000_0000) % 2048;
-    let digits = bits % 0x10_0000_0000_0000;
-    if field == 2047 {
+    let p = crate::pattern_of(x);
+    if p.field == 2047 {
         return Whole::Refused(Refusal::NotFinite);
     }
-    let size = size_of(field, digits);
+    let size = size_of(p.field, p.digits);
     match size {
-        Size::Of(n) => with_sign(n, bits >= 0x8000_0000_0000_0000),
+        Size::Of(n) => with_sign(n, p.negative),
         Size::Fraction => Whole::Refused(Refusal::Inexact),
         Size::Large => Whole::Refused(Refusal::OutOfRange),
     }

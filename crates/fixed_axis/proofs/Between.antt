@@ -4,37 +4,27 @@ use mathlib.Core.Bool.{Bool, true, false, false≢true}
 use Prim.Native.Nat.{ℕ, suc, _*_}
 use native.Mathlib.Nat.{mul-le-mul-right}
 use native.Mathlib.Omega.{arith}
-use lib.Dec.{T, le→leb, leb→le}
+use lib.Dec.{T, eqb, le→leb, leb→le}
 use lib.IntN.{ℤ, pos, negsuc, _*ℤ_}
 use lib.Signed.{leZ}
-use lib.Ieee.{Float, le}
-use Rattle.signed.specs.Bias.{lower}
-use Rattle.signed.proofs.Tests.{both, and-parts}
-use Rattle.signed.proofs.Order.{le-trans}
+use lib.Ieee.{Float, nan, inf, fin, le, lt, eq}
+use Rattle.refusal.specs.declared.Refusal.the-variants.{NotFinite}
 use Rattle.signed.proofs.Integers.{mono, neg-le, neg-le-pos}
 use Rattle.calendar.specs.declared.Calendar.{Calendar}
 use Rattle.axis_types.specs.Lengths.{lengthOf}
 use Rattle.axis_types.specs.declared.Period.{Period}
-use Rattle.instant.specs.Instant.{inRange}
 use Rattle.axis_types.specs.declared.Reading.{Reading}
-use Rattle.double.proofs.Demands as Double
+use Rattle.instant.specs.Instant.{inRange}
+use Rattle.instant.proofs.Range.{between}
+use Rattle.double.specs.Nearest.{distance, nearestCount}
+use Rattle.double.proofs.Order.{count-mono}
 use Rattle.fixed_axis.specs.Fixed.{timeAfter, readWhole, readDouble}
-use Rattle.fixed_axis.specs.Closed.{firstInstant, lastInstant}
-use Rattle.fixed_axis.proofs.Range.{range}
-use Rattle.fixed_axis.proofs.Joined.{joined}
+use Rattle.fixed_axis.proofs.Readings.{not-read, settled}
 use Rattle.fixed_axis.proofs.Offsets.{read-of, reads}
-
--- ---- the range
-inside : (c : Calendar) (a t b : ℤ) → leZ a t ≡ true → leZ t b ≡ true → inRange c a ≡ true → inRange c b ≡ true → inRange c t ≡ true
-inside c a t b h g p q =
-    let lo = lower (firstInstant c) in
-    let hi = lower (lastInstant c) in
-    let v = and-parts (leZ lo a) (leZ a hi) (sym (range c a) ∙ p) .0 in
-    let w = and-parts (leZ lo b) (leZ b hi) (sym (range c b) ∙ q) .1 in
-    range c t ∙ both (leZ lo t) (leZ t hi) (le-trans lo a t v h) (le-trans t b hi g w)
+use Rattle.fixed_axis.proofs.Doubles.{double-of}
 
 -- ---- whole offsets
-is-true : (b : Bool) → T b → b ≡ true
+pub is-true : (b : Bool) → T b → b ≡ true
 is-true true h = refl
 is-true false h = absurd h
 
@@ -56,11 +46,25 @@ module _ (c : Calendar) (p : Period) (R : ℤ) where
   whole-between x y z a b i j h g p' q' =
       let r = read-of c p R x a i p' in
       let s = read-of c p R z b j q' in
-      reads c p R y (timeAfter p R y) (r .reference)
-      (inside c (timeAfter p R x) (timeAfter p R y) (timeAfter p R z) (time-mono x y h) (time-mono y z g) (ap (inRange c) (r .is) ∙ r .inside) (ap (inRange c) (s .is) ∙ s .inside))
+      reads c p R y (timeAfter p R y)
+      (between c (timeAfter p R x) (timeAfter p R y) (timeAfter p R z) (time-mono x y h) (time-mono y z g) (ap (inRange c) (r .is) ∙ r .inside) (ap (inRange c) (s .is) ∙ s .inside))
       refl
 
   pub double-between : (x y z : Float) (a b : ℤ) (i j : Bool) → T (le x y) → T (le y z) → readDouble c p R x ≡ Reading.At a i → readDouble c p R z ≡ Reading.At b j → (t : ℤ) × (k : Bool) × (readDouble c p R y ≡ Reading.At t k)
-  double-between x y z a b i j h g f e =
-      let r = Double.read-between (lower (firstInstant c)) (lower (lastInstant c)) R (lengthOf p) x y z a b i j h g (sym (joined c p R x) ∙ f) (sym (joined c p R z) ∙ e) in
-      (r .0, r .1, joined c p R y ∙ r .2)
+  unfolding readDouble le lt eq
+  double-between nan y z a b i j h g f q = absurd (not-read NotFinite a i f)
+  double-between (inf s) y z a b i j h g f q = absurd (not-read NotFinite a i f)
+  double-between (fin s m e) y nan a b i j h g f q = absurd (not-read NotFinite b j q)
+  double-between (fin s m e) y (inf t) a b i j h g f q = absurd (not-read NotFinite b j q)
+  double-between (fin s m e) nan (fin t n d) a b i j h g f q = absurd h
+  double-between (fin s m e) (inf true) (fin t n d) a b i j h g f q = absurd h
+  double-between (fin s m e) (inf false) (fin t n d) a b i j h g f q = absurd g
+  double-between (fin s m e) (fin u o v) (fin t n d) a b i j h g f q =
+      let P = lengthOf p in
+      let x = nearestCount R P s m e in
+      let y = nearestCount R P u o v in
+      let z = nearestCount R P t n d in
+      let r = double-of c p R s m e a i f in
+      let l = double-of c p R t n d b j q in
+      let w = between c x y z (is-true (leZ x y) (count-mono R P s m e u o v h)) (is-true (leZ y z) (count-mono R P u o v t n d g)) (ap (inRange c) (r .is) ∙ r .inside) (ap (inRange c) (l .is) ∙ l .inside) in
+      (y, eqb (distance R P u o v y) 0, sym (settled c y (eqb (distance R P u o v y) 0) w))

@@ -1,9 +1,10 @@
-pub mod Range
 pub mod Sums
-pub mod Reading
-pub mod Joined
+pub mod Periods
+pub mod Readings
+pub mod Displacements
 pub mod Writing
 pub mod Dates
 pub mod Offsets
+pub mod Doubles
 pub mod Between
 pub mod Demands

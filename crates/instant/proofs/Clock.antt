@@ -1,22 +1,23 @@
 -- The time of day of fields, and the instant of a day and a time.
-use mathlib.Core.Path.{_≡_, sym, ap, _∙_}
+use mathlib.Core.Path.{_≡_, sym, ap, _∙_, subst}
 use mathlib.Core.Bool.{true, _&&_}
-use Prim.Native.Nat.{ℕ, _+_, _-_, _*_, _<_}
+use Prim.Native.Nat.{ℕ, _+_, _-_, _*_, _≤_, _<_}
 use native.Mathlib.Omega.{arith}
 use lib.Dec.{ltb}
-use lib.IntN.{ℤ, pos, _+ℤ_, _*ℤ_}
+use lib.IntN.{ℤ}
+use lib.Signed.{mag}
 use borrow.Author.Tests.{ltb-true}
 use Rattle.signed.specs.Bias.{lower}
 use Rattle.signed.proofs.Tests.{and-parts}
-use Rattle.signed.proofs.Differences.{sub-inj, same-diff, times-plus}
-use Rattle.calendar.specs.Calendar.{inYears}
+use Rattle.signed.proofs.Differences.{by-sign, same-diff, times-plus}
+use Rattle.calendar.specs.Calendar.{dateOf, inYears}
 use Rattle.calendar.specs.Answers.{dayAnswer}
 use Rattle.calendar.specs.declared.Calendar.{Calendar}
 use Rattle.calendar.specs.declared.Date.{Date}
 use Rattle.calendar.specs.declared.DayAnswer.{DayAnswer}
 use Rattle.calendar.proofs.Range.{Near, near}
 use Rattle.calendar.proofs.Theorems.{answered}
-use Rattle.instant.specs.Instant.{isClock, clockTime}
+use Rattle.instant.specs.Instant.{isClock, clockTime, instantAt}
 use Rattle.instant.specs.declared.Fields.{Fields}
 
 pub record Clock (f : Fields) : Type 0 where
@@ -35,17 +36,23 @@ clock-of f h =
 pub clock-small : (f : Fields) → isClock f ≡ true → clockTime f < 86400000000
 clock-small f h = let c = clock-of f h in omega (arith, c .hour, c .minute, c .second, c .microsecond)
 
--- a day number that was answered, counted from day -5000000
-pub answered-near : (c : Calendar) (x : Date) (z : ℤ) → DayAnswer.Is z ≡ dayAnswer c x → Near z
-answered-near c x z h = let n = answered c x z h in near c z (ap (λ (d : Date). inYears (d .year)) (n .is) ∙ n .inside)
+-- ---- day numbers of the years -9999 to 9999
+near-small : (z : ℤ) → Near z → mag z < 5000000
+near-small z n = subst (λ (w : ℤ). mag w < 5000000) (n .is) (by-sign (λ (w : ℤ). mag w < 5000000) (n .number) 5000000 (λ h. omega arith) (λ h. omega (arith, n .low)))
 
-module _ (z : ℤ) (k : ℕ) (n : Near z) (e : lower k ≡ z) where
-  pub raised-near : k ≡ n .number + 9223372036849775808
-  raised-near = sub-inj k (n .number + 9223372036849775808) 9223372036854775808 (e ∙ (sym (n .is) ∙ same-diff (n .number) 5000000 (n .number + 9223372036849775808) 9223372036854775808 (omega arith)))
+pub day-small : (c : Calendar) (z : ℤ) → inYears (dateOf c z .year) ≡ true → mag z < 5000000
+day-small c z h = near-small z (near c z h)
 
-  -- the day's beginning and a time of day
-  pub instant-at : (s : ℕ) → lower ((k - 9223372036849775808) * 86400000000 + s + 8791372036854775808) ≡ z *ℤ pos 86400000000 +ℤ pos s
-  instant-at s =
-      let a = n .number in
-      same-diff ((k - 9223372036849775808) * 86400000000 + s + 8791372036854775808) 9223372036854775808 (a * 86400000000 + s) (5000000 * 86400000000) (omega (arith, raised-near))
-      ∙ (sym (times-plus a 5000000 86400000000 s) ∙ ap (λ (w : ℤ). w *ℤ pos 86400000000 +ℤ pos s) (n .is))
+pub answered-small : (c : Calendar) (x : Date) (z : ℤ) → DayAnswer.Is z ≡ dayAnswer c x → mag z < 5000000
+answered-small c x z h = let n = answered c x z h in day-small c z (ap (λ (d : Date). inYears (d .year)) (n .is) ∙ n .inside)
+
+-- ---- the day's beginning and a time of day: k is the day, raised by 2^63
+module _ (z : ℤ) (k s : ℕ) (small : mag z < 5000000) (e : lower k ≡ z) where
+  pub day-near : (9223372036849775808 ≤ k) × (k < 9223372036859775808)
+  day-near = by-sign (λ (w : ℤ). mag w < 5000000 → (9223372036849775808 ≤ k) × (k < 9223372036859775808)) k 9223372036854775808 (λ h m. (omega arith, omega arith)) (λ h m. (omega arith, omega arith)) (subst (λ (w : ℤ). mag w < 5000000) (sym e) small)
+
+  pub instant-at : lower ((k - 9223372036849775808) * 86400000000 + s + 8791372036854775808) ≡ instantAt z s
+  instant-at =
+      let n = day-near in
+      same-diff ((k - 9223372036849775808) * 86400000000 + s + 8791372036854775808) 9223372036854775808 (k * 86400000000 + s) (9223372036854775808 * 86400000000) (omega arith)
+      ∙ (sym (times-plus k 9223372036854775808 86400000000 s) ∙ ap (λ (w : ℤ). instantAt w s) e)

@@ -1,3 +1,4 @@
 pub mod Days
 pub mod Clock
 pub mod Theorems
+pub mod Range

@@ -1,6 +1,6 @@
 -- What is proved of instants and their fields, in one place: there and back, and order. `c` is any of the six calendars, t and u any integers.
 use mathlib.Core.Path.{_≡_, refl, sym, ap, _∙_}
-use mathlib.Core.Bool.{Bool, true, false, _&&_, _||_, true≢false}
+use mathlib.Core.Bool.{Bool, true, false, _&&_, _||_, cond, true≢false}
 use Prim.Native.Nat.{ℕ, suc, _+_, _-_, _*_, _/_, _%_, _<_}
 use native.Mathlib.Omega.{arith}
 use lib.Dec.{ltb, eqb}
@@ -21,7 +21,7 @@ use Rattle.calendar.specs.declared.DayAnswer.{DayAnswer}
 use Rattle.calendar.proofs.Numbering.{same-of, same-self}
 use Rattle.calendar.proofs.Answering.{in-range, date-there}
 use Rattle.calendar.proofs.Theorems.{order, one-day, dates-exist, answered}
-use Rattle.instant.specs.Instant.{dayOf, timeOf, inRange, fieldsAt, withTime, fieldsAnswer, dateIn, isClock, clockTime, withClock, pickInstant, instantAnswer}
+use Rattle.instant.specs.Instant.{dayOf, timeOf, inRange, fieldsAt, withTime, fieldsAnswer, dateIn, isClock, clockTime, withClock, instantAnswer}
 use Rattle.instant.specs.Order.{earlierClock, earlierFields}
 use Rattle.instant.specs.declared.Fields.{Fields}
 use Rattle.instant.specs.declared.FieldsAnswer.{FieldsAnswer}
@@ -120,9 +120,9 @@ module _ (c : Calendar) (f : Fields) (t : ℤ) where
   placed = go (dayAnswer c (dateIn f)) (isClock f) refl refl
     where
       go : (a : DayAnswer) (b : Bool) → a ≡ dayAnswer c (dateIn f) → isClock f ≡ b → withClock a f ≡ InstantAnswer.Is t → Placed
-      go (DayAnswer.Is n) true e g h = record { day = n; answer = e; clock = g; is = (cc (ap (λ (b : Bool). pickInstant b (InstantAnswer.Is (n *ℤ pos 86400000000 +ℤ pos (clockTime f))) (InstantAnswer.Refused NoSuchDate)) (sym g) ∙ h)) }
+      go (DayAnswer.Is n) true e g h = record { day = n; answer = e; clock = g; is = (cc (ap (λ (b : Bool). cond b (InstantAnswer.Is (n *ℤ pos 86400000000 +ℤ pos (clockTime f))) (InstantAnswer.Refused NoSuchDate)) (sym g) ∙ h)) }
       go (DayAnswer.Is n) false e g h =
-          let k : InstantAnswer.Refused NoSuchDate ≡ InstantAnswer.Is t = ap (λ (b : Bool). pickInstant b (InstantAnswer.Is (n *ℤ pos 86400000000 +ℤ pos (clockTime f))) (InstantAnswer.Refused NoSuchDate)) (sym g) ∙ h in
+          let k : InstantAnswer.Refused NoSuchDate ≡ InstantAnswer.Is t = ap (λ (b : Bool). cond b (InstantAnswer.Is (n *ℤ pos 86400000000 +ℤ pos (clockTime f))) (InstantAnswer.Refused NoSuchDate)) (sym g) ∙ h in
           absurd (let y : _≡_ {A = ℕ} 0 1 = (cc) in omega arith)
       go (DayAnswer.Refused r) b e g h = absurd (let y : _≡_ {A = ℕ} 0 1 = (cc) in omega arith)
 
@@ -153,7 +153,7 @@ module _ (c : Calendar) where
       let i : dayOf t *ℤ pos 86400000000 +ℤ pos (clockTime g) ≡ t = ap (λ (n : ℕ). dayOf t *ℤ pos 86400000000 +ℤ pos n) (time-of-fields d s) ∙ day-and-time t in
       ap (λ (x : Fields). withClock (dayAnswer c (dateIn x)) x) (sym (v .is))
       ∙ (ap (λ (x : DayAnswer). withClock x g) (sym a)
-      ∙ (ap (λ (b : Bool). pickInstant b (InstantAnswer.Is (dayOf t *ℤ pos 86400000000 +ℤ pos (clockTime g))) (InstantAnswer.Refused NoSuchDate)) k
+      ∙ (ap (λ (b : Bool). cond b (InstantAnswer.Is (dayOf t *ℤ pos 86400000000 +ℤ pos (clockTime g))) (InstantAnswer.Refused NoSuchDate)) k
       ∙ ap InstantAnswer.Is i))
 
 -- ---- order

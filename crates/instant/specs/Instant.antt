@@ -1,5 +1,5 @@
 -- Instants and their fields: document 01, "Instants and axes". An instant is a count of microseconds from 1970-01-01T00:00:00.
-use mathlib.Core.Bool.{Bool, true, false, _&&_}
+use mathlib.Core.Bool.{Bool, _&&_, cond}
 use Prim.Native.Nat.{ℕ, suc, _+_, _-_, _*_, _/_, _%_}
 use lib.Dec.{ltb}
 use lib.IntN.{ℤ, pos, negsuc, _+ℤ_, _*ℤ_}
@@ -29,6 +29,10 @@ dayOf (negsuc n) = negsuc (n / dayLength)
 unfoldable pub timeOf : ℤ → ℕ
 timeOf (pos n) = n % dayLength
 timeOf (negsuc n) = dayLength - 1 - n % dayLength
+
+-- the instant of a day at a time of day
+abbrev pub instantAt : ℤ → ℕ → ℤ
+instantAt z s = z *ℤ pos dayLength +ℤ pos s
 
 -- an instant lies in the years -9999 to 9999 where the date of its day does
 abbrev pub inRange : Calendar → ℤ → Bool
@@ -68,12 +72,8 @@ isClock f = (ltb (f .hour) 24 && ltb (f .minute) 60) && (ltb (f .second) 60 && l
 abbrev pub clockTime : Fields → ℕ
 clockTime f = ((f .hour * 60 + f .minute) * 60 + f .second) * 1000000 + f .microsecond
 
-abbrev pub pickInstant : Bool → InstantAnswer → InstantAnswer → InstantAnswer
-pickInstant true a b = a
-pickInstant false a b = b
-
 abbrev pub withClock : DayAnswer → Fields → InstantAnswer
-withClock (DayAnswer.Is n) f = pickInstant (isClock f) (InstantAnswer.Is (n *ℤ pos dayLength +ℤ pos (clockTime f))) (InstantAnswer.Refused NoSuchDate)
+withClock (DayAnswer.Is n) f = cond (isClock f) (InstantAnswer.Is (instantAt n (clockTime f))) (InstantAnswer.Refused NoSuchDate)
 withClock (DayAnswer.Refused r) f = InstantAnswer.Refused r
 
 -- refused as the day number of its date is, and then where the time of day does not exist

@@ -1,2 +1,3 @@
 pub mod Instant
 pub mod Order
+pub mod Closed

@@ -1,7 +1,13 @@
-// Instants: microseconds from 1970-01-01T00:00:00 of a calendar, and their fields. Both calls are total, and each undoes the other.
+// Instants: microseconds from 1970-01-01T00:00:00 of a calendar, their range, and their fields. `fields_of` and `instant_of` are total, and
+// each undoes the other.
 ghost use mathlib.Core.Path.{_≡_};
 ghost use Prim.Native.Nat.{_<_};
-ghost use Rattle.instant.specs.Instant.{clockTime, isClock, fieldsAt, fieldsAnswer, instantAnswer};
+ghost use lib.IntN.{subℕ};
+ghost use lib.Signed.{mag};
+ghost use Rattle.signed.specs.Bias.{lower};
+ghost use Rattle.calendar.specs.Closed.{epochDay, endDay};
+ghost use Rattle.instant.specs.Instant.{dayLength, dayOf, timeOf, instantAt, inRange, clockTime, isClock, fieldsAt, fieldsAnswer, instantAnswer};
+ghost use Rattle.instant.specs.Closed.{firstInstant, lastInstant};
 use calendar::Calendar;
 use calendar::Date;
 use calendar::DateAnswer;
@@ -31,6 +37,75 @@ pub enum InstantAnswer {
     Refused(Refusal),
 }
 
+// The instant of a day, counted from 1970-01-01, at a time of day.
+pub fn instant_at(day: i64, time: u64) -> i64
+    requires { ⌜ (mag day < 5000000) × (time < dayLength) ⌝ }
+    ensures { λ t. ⌜ t ≡ instantAt day time ⌝ }
+{
+    // the day counted from day -5000000
+    let n = signed::biased(day) - (0x8000_0000_0000_0000 - 5000000);
+    signed::unbiased(n * 86400000000 + time + (0x8000_0000_0000_0000 - 432000000000000000))
+}
+
+// The day of an instant, raised by 2^63, and its time of day.
+pub struct DayTime {
+    pub day: u64,
+    pub time: u64,
+}
+
+pub fn day_and_time(t: i64) -> DayTime
+    ensures { λ r. ⌜ (lower (r .day) ≡ dayOf t) × (r .time ≡ timeOf t) ⌝ }
+{
+    // 2^63 microseconds are 106751991 days and 14454775808 microseconds
+    let k = signed::biased(t);
+    if k < 14454775808 {
+        return DayTime {
+            day: 0x8000_0000_0000_0000 - 106751992,
+            time: k + (86400000000 - 14454775808),
+        };
+    }
+    let n = k - 14454775808;
+    return DayTime {
+        day: n / 86400000000 + (0x8000_0000_0000_0000 - 106751991),
+        time: n % 86400000000,
+    };
+}
+
+// The instant of a calendar's day n, counted from its first place, at a time of day.
+fn instant_on(c: Calendar, n: u64, time: u64) -> i64
+    requires { ⌜ (n < endDay c) × (time < dayLength) ⌝ }
+    ensures { λ t. ⌜ t ≡ instantAt (subℕ n (epochDay c)) time ⌝ }
+{
+    instant_at(
+        signed::unbiased(0x8000_0000_0000_0000 + n - calendar::epoch_day(c)),
+        time,
+    )
+}
+
+// The first microsecond of year -9999.
+pub fn first_instant(c: Calendar) -> i64
+    ensures { λ t. ⌜ t ≡ firstInstant c ⌝ }
+{
+    instant_on(c, calendar::first_day(c), 0)
+}
+
+// The last microsecond of year 9999.
+pub fn last_instant(c: Calendar) -> i64
+    ensures { λ t. ⌜ t ≡ lastInstant c ⌝ }
+{
+    instant_on(c, calendar::end_day(c) - 1, 86399999999)
+}
+
+// Whether an instant lies in the years -9999 to 9999.
+pub fn in_range(c: Calendar, t: i64) -> bool
+    ensures { λ b. ⌜ b ≡ inRange c t ⌝ }
+{
+    if t < first_instant(c) {
+        return false;
+    }
+    return t <= last_instant(c);
+}
+
 // The fields of the time s of a day, in microseconds.
 fn fields_at(d: Date, s: u64) -> Fields
     requires { ⌜ s < 86400000000 ⌝ }
@@ -51,18 +126,10 @@ fn fields_at(d: Date, s: u64) -> Fields
 pub fn fields_of(c: Calendar, t: i64) -> FieldsAnswer
     ensures { λ r. ⌜ r ≡ fieldsAnswer c t ⌝ }
 {
-    let k = signed::biased(t);
-    if k < 0x8000_0000_0000_0000 - 0x0800_0000_0000_0000 {
-        return FieldsAnswer::Refused(Refusal::OutOfRange);
-    }
-    if 0x8000_0000_0000_0000 + 0x0800_0000_0000_0000 <= k {
-        return FieldsAnswer::Refused(Refusal::OutOfRange);
-    }
-    // t counted from the beginning of day -106751992
-    let n = k + 71945224192;
-    match calendar::date_of_biased_day(c, n / 86400000000 + (0x8000_0000_0000_0000 - 106751992)) {
+    let s = day_and_time(t);
+    match calendar::date_of_biased_day(c, s.day) {
         DateAnswer::Refused(r) => return FieldsAnswer::Refused(r),
-        DateAnswer::Is(d) => return FieldsAnswer::Is(fields_at(d, n % 86400000000)),
+        DateAnswer::Is(d) => return FieldsAnswer::Is(fields_at(d, s.time)),
     }
 }
 
@@ -103,11 +170,7 @@ pub fn instant_of(c: Calendar, f: Fields) -> InstantAnswer
         DayAnswer::Refused(r) => return InstantAnswer::Refused(r),
         DayAnswer::Is(n) => {
             if is_clock(f) {
-                // the day counted from day -5000000
-                let k = signed::biased(n) - (0x8000_0000_0000_0000 - 5000000);
-                return InstantAnswer::Is(signed::unbiased(
-                    k * 86400000000 + clock_time(f) + (0x8000_0000_0000_0000 - 432000000000000000),
-                ));
+                return InstantAnswer::Is(instant_at(n, clock_time(f)));
             }
             return InstantAnswer::Refused(Refusal::NoSuchDate);
         }

@@ -3,8 +3,8 @@
 use mathlib.Core.Path.{_≡_, refl, sym, ap, _∙_, subst}
 use mathlib.Core.Logic.{_⊎_, inl, inr}
 use mathlib.Core.Bool.{Bool, true, false, not}
-use Prim.Native.Nat.{ℕ, zero, suc, _+_, _-_, _*_, _/_, _%_, _^_, _≤_, _<_, compare, Ordering, Ordering·lt, Ordering·eq, Ordering·gt}
-use native.Mathlib.Nat.{mul-assoc, mul-right-comm, mul-le-mul-right, suc-mul, add-mul, mod-lt, div-add-mod', eq-of-mul-eq-mul-right}
+use Prim.Native.Nat.{ℕ, zero, suc, _+_, _-_, _*_, _/_, _%_, _≤_, _<_, compare, Ordering, Ordering·lt, Ordering·eq, Ordering·gt}
+use native.Mathlib.Nat.{mul-right-comm, mul-le-mul-right, suc-mul, mod-lt, div-add-mod', eq-of-mul-eq-mul-right}
 use native.Mathlib.Omega.{arith}
 use native.Mathlib.Decide.{decLt}
 use lib.Dec.{T, isLe, isEq, eqb, leb→le, nleb→lt, eqb→eq, eqb-refl}
@@ -137,58 +137,6 @@ module _ (n d h w r : ℕ) (D : d ≡ h * 2) (s : w * d + r ≡ n) (R : r < d) w
       go : Parity w d → (w + w % 2) * d ≡ n → ⊥
       go (inl p) q = omega arith
       go (inr p) q = omega arith
-
--- ---- an even number of ds more
-module _ (c a d : ℕ) (D : 0 < d) where
-  pub plus-even : c * 2 + closest a d ≡ closest (c * 2 * d + a) d
-  plus-even =
-      let k = closest-is a d D in
-      is-closest D
-      (record {
-        is = add-mul (c * 2) (closest a d) d;
-        above = omega (arith, k .above);
-        below = omega (arith, k .below);
-        tie-above = λ t. par (k .tie-above (omega arith));
-        tie-below = λ t. par (k .tie-below (omega arith));
-      })
-    where
-      par : closest a d % 2 ≡ 0 → (c * 2 + closest a d) % 2 ≡ 0
-      par h = omega arith
-
-  pub plus-even-exact : isExact a d ≡ isExact (c * 2 * d + a) d
-  plus-even-exact =
-      let s : (c * 2 + closest a d) * d ≡ c * 2 * d + closest a d * d = add-mul (c * 2) (closest a d) d in
-      exact-of (c * 2 * d + a) d (c * 2 + closest a d) plus-even (isExact a d) (eqb-iff (closest a d * d) a ((c * 2 + closest a d) * d) (c * 2 * d + a) (λ (q : closest a d * d ≡ a). omega arith) (λ (q : (c * 2 + closest a d) * d ≡ c * 2 * d + a). omega arith))
-
--- ---- the digits B below the half are folded into a sticky bit f
-module _ (A B g f : ℕ) (G : 0 < g) (b : B < 2 ^ 63) (F : ((B ≡ 0) × (f ≡ 0)) ⊎ ((0 < B) × (f ≡ 1))) where
-  abbrev c : ℕ
-  c = closest (A * 2 + f) (g * 4)
-
-  by-four : c * (g * 4) ≡ c * g * 4
-  by-four = sym (mul-assoc c g 4)
-
-  by-word : c * (g * 2 ^ 64) ≡ c * g * 2 ^ 64
-  by-word = sym (mul-assoc c g (2 ^ 64))
-
-  pub sticky-closest : c ≡ closest (A * 2 ^ 63 + B) (g * 2 ^ 64)
-  sticky-closest =
-      let i = by-four in
-      let k : IsClosest (A * 2 + f) (g * 4) c (c * (g * 4)) = closest-is (A * 2 + f) (g * 4) (omega arith) in
-      is-closest {a = A * 2 ^ 63 + B} {d = g * 2 ^ 64} {p = c * g * 2 ^ 64} (omega arith)
-      (elim F [
-        | inl h ↦ record { is = by-word; above = omega (arith, k .above); below = omega (arith, k .below); tie-above = λ t. k .tie-above (omega arith); tie-below = λ t. k .tie-below (omega arith) }
-        | inr h ↦ record { is = by-word; above = omega (arith, k .above); below = omega (arith, k .below); tie-above = λ t. k .tie-above (omega (arith, k .above)); tie-below = λ t. k .tie-below (omega (arith, k .below)) }
-      ])
-
-  pub sticky-exact : isExact (A * 2 + f) (g * 4) ≡ isExact (A * 2 ^ 63 + B) (g * 2 ^ 64)
-  sticky-exact =
-      let i = by-four in
-      let j = by-word in
-      exact-of (A * 2 ^ 63 + B) (g * 2 ^ 64) c sticky-closest (isExact (A * 2 + f) (g * 4))
-      (eqb-iff (c * (g * 4)) (A * 2 + f) (c * (g * 2 ^ 64)) (A * 2 ^ 63 + B)
-      (λ q. elim F [ inl h ↦ omega arith | inr h ↦ omega arith ])
-      (λ q. elim F [ inl h ↦ omega arith | inr h ↦ omega arith ]))
 
 -- ---- less than a half
 module _ (a d : ℕ) (h : a * 2 < d) where

@@ -1,4 +1,3 @@
 pub mod Closest
-pub mod Shift
 pub mod Columns
-pub mod WideShift
+pub mod HighShift

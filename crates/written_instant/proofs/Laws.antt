@@ -4,22 +4,16 @@ use mathlib.Core.Bool.{Bool, true, false, cond}
 use Prim.Native.Nat.{ℕ, zero, suc, _+_, _-_, _≤_, _<_}
 use native.Mathlib.Omega.{arith}
 use lib.IntN.{ℤ, pos, negsuc, negℤ, subℕ, _+ℤ_, _-ℤ_, +ℤ-idr, negℤ-negℤ}
-use lib.Dec.{leb, ltb}
-use borrow.Author.Tests.{leb-true, leb-false, ltb-true, ltb-false, lt-ltb, le-ltb}
+use lib.Dec.{ltb}
+use borrow.Author.Tests.{lt-ltb, le-ltb}
 use Rattle.refusal.specs.declared.Refusal.{Refusal}
 use Rattle.signed.specs.Bias.{lower}
 use Rattle.signed.proofs.Differences.{by-sign, sub-low, sub-high, same-diff}
-use Rattle.calendar.specs.Answers.{dateAnswer, pickDateAnswer}
-use Rattle.calendar.specs.Calendar.{dateOf}
 use Rattle.calendar.specs.declared.Calendar.{Calendar}
-use Rattle.calendar.specs.declared.DateAnswer.{DateAnswer}
-use Rattle.instant.specs.Instant.{dayOf, timeOf, inRange, withTime, fieldsAnswer, instantAnswer}
+use Rattle.instant.specs.Instant.{inRange, instantAnswer}
 use Rattle.instant.specs.declared.Fields.{Fields}
-use Rattle.instant.specs.declared.FieldsAnswer.{FieldsAnswer}
 use Rattle.instant.specs.declared.InstantAnswer.{InstantAnswer}
-use Rattle.instant.proofs.Days.{far-before, far-after}
 use Rattle.instant.proofs.Theorems.{shown, fields-of-instant}
-use Rattle.grammar.proofs.Tests.{clash}
 use Rattle.date_text.specs.declared.Zone.{Zone}
 use Rattle.date_text.specs.declared.WrittenDate.{WrittenDate}
 use Rattle.written_instant.specs.Instants.{signedOf, zoneLength, ahead, ranged, lessZone}
@@ -59,36 +53,6 @@ no-zone t true m e = sym (+ℤ-idr t) ∙ ap (λ (n : ℕ). t -ℤ signedOf true
 no-zone t false m e = sym (+ℤ-idr t) ∙ ap (λ (n : ℕ). t -ℤ signedOf false n) (sym e)
 
 -- ---- the range
-
--- an instant in range is less than 2^59 microseconds from 1970
-pub range-low : (c : Calendar) (t : ℤ) (k : ℕ) → lower k ≡ t → inRange c t ≡ true → 8646911284551352320 ≤ k
-range-low c t k e h = go (leb 8646911284551352320 k) refl
-  where
-    go : (b : Bool) → leb 8646911284551352320 k ≡ b → 8646911284551352320 ≤ k
-    go true x = leb-true 8646911284551352320 k x
-    go false x =
-        let l = leb-false 8646911284551352320 k x in
-        clash h (ap (inRange c) (sym e ∙ sub-low k 9223372036854775808 (omega arith)) ∙ far-before c (9223372036854775808 - suc k) (omega arith))
-
-pub range-high : (c : Calendar) (t : ℤ) (k : ℕ) → lower k ≡ t → inRange c t ≡ true → k < 9799832789158199296
-range-high c t k e h = go (ltb k 9799832789158199296) refl
-  where
-    go : (b : Bool) → ltb k 9799832789158199296 ≡ b → k < 9799832789158199296
-    go true x = ltb-true k 9799832789158199296 x
-    go false x =
-        let l = ltb-false k 9799832789158199296 x in
-        clash h (ap (inRange c) (sym e ∙ sub-high k 9223372036854775808 (omega arith)) ∙ far-after c (k - 9223372036854775808) (omega arith))
-
-pub range-in : (c : Calendar) (t : ℤ) (f : Fields) → fieldsAnswer c t ≡ FieldsAnswer.Is f → ranged c t ≡ InstantAnswer.Is t
-range-in c t f h = rw (shown c t f h .inside)
-
-pub range-out : (c : Calendar) (t : ℤ) (r : Refusal) → fieldsAnswer c t ≡ FieldsAnswer.Refused r → ranged c t ≡ InstantAnswer.Refused Refusal.OutOfRange
-unfolding fieldsAnswer dateAnswer
-range-out c t r h = go (inRange c t) h
-  where
-    go : (b : Bool) → withTime (pickDateAnswer b (DateAnswer.Is (dateOf c (dayOf t))) (DateAnswer.Refused Refusal.OutOfRange)) (timeOf t) ≡ FieldsAnswer.Refused r → cond b (InstantAnswer.Is t) (InstantAnswer.Refused Refusal.OutOfRange) ≡ InstantAnswer.Refused Refusal.OutOfRange
-    go true x = absurd (let y : _≡_ {A = ℕ} 0 1 = (cc) in omega arith)
-    go false x = refl
 
 -- the instant of fields lies in range
 pub local-range : (c : Calendar) (f : Fields) (t : ℤ) → instantAnswer c f ≡ InstantAnswer.Is t → inRange c t ≡ true

@@ -18,7 +18,7 @@ use Rattle.calendar.specs.Calendar.{exists, inYears}
 use Rattle.calendar.specs.Answers.{dayNumber, dayAnswer, pickDayAnswer}
 use Rattle.calendar.specs.declared.Calendar.{Calendar}
 use Rattle.calendar.specs.declared.DayAnswer.{DayAnswer}
-use Rattle.instant.specs.Instant.{dayLength, dateIn, isClock, clockTime, pickInstant, withClock, instantAnswer}
+use Rattle.instant.specs.Instant.{dayLength, dateIn, isClock, clockTime, withClock, instantAnswer}
 use Rattle.instant.specs.declared.InstantAnswer.{InstantAnswer}
 use Rattle.date_text.specs.declared.WrittenDate.{WrittenDate}
 use Rattle.date_text.specs.DateRule.{dateRule}
@@ -48,7 +48,7 @@ pub written-order : (c : Calendar) (w : WrittenDate) → w .year ≤ 9999 → wr
 unfolding writtenInstant instantAnswer dayAnswer
 written-order c w h = rw (signed-in (w .negative) (w .year) h) (go (exists c (dateIn (localFields w))))
   where
-    clocked : (b : Bool) → lessZone c (w .time .zone) (pickInstant b (InstantAnswer.Is (localInstant c w)) (InstantAnswer.Refused Refusal.NoSuchDate)) ≡ cond (b && isZone (w .time .zone)) (ranged c (localInstant c w -ℤ ahead (w .time .zone))) (InstantAnswer.Refused Refusal.NoSuchDate)
+    clocked : (b : Bool) → lessZone c (w .time .zone) (cond b (InstantAnswer.Is (localInstant c w)) (InstantAnswer.Refused Refusal.NoSuchDate)) ≡ cond (b && isZone (w .time .zone)) (ranged c (localInstant c w -ℤ ahead (w .time .zone))) (InstantAnswer.Refused Refusal.NoSuchDate)
     clocked true = refl
     clocked false = refl
 

@@ -8,7 +8,6 @@ use calendar::Calendar;
 use date_text::WrittenDate;
 use date_text::Zone;
 use instant::Fields;
-use instant::FieldsAnswer;
 use instant::InstantAnswer;
 use refusal::Refusal;
 
@@ -26,10 +25,10 @@ fn signed_of(negative: bool, n: u32) -> i64
 fn ranged_instant(c: Calendar, t: i64) -> InstantAnswer
     ensures { λ r. ⌜ r ≡ ranged c t ⌝ }
 {
-    match instant::fields_of(c, t) {
-        FieldsAnswer::Is(_) => return InstantAnswer::Is(t),
-        FieldsAnswer::Refused(_) => return InstantAnswer::Refused(Refusal::OutOfRange),
+    if instant::in_range(c, t) {
+        return InstantAnswer::Is(t);
     }
+    return InstantAnswer::Refused(Refusal::OutOfRange);
 }
 
 // A local instant less a zone.

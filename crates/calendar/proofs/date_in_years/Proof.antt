@@ -3,14 +3,14 @@ use mathlib.Core.Path.{ap, _∙_}
 use Prim.Native.Nat.{_-_, _<_, _≤_}
 use native.Mathlib.Omega.{arith}
 use Rattle.calendar.specs.Calendar.{dateOf}
-use Rattle.calendar.specs.Closed.{end}
+use Rattle.calendar.specs.Closed.{endDay}
 use Rattle.calendar.proofs.Range.{small}
 use Rattle.calendar.proofs.Answering.{years-inside, place-is}
 use borrow.Author.Needs.{needs}
 use Rattle.calendar.proofs.date_in_years.Statement.{statement}
 use Rattle.calendar.proofs.date_in_years.Tie as tie
 
-inside : (c : tie.After-origin) → (c .origin .result ≤ c .before .args .k) × (c .before .args .k - c .origin .result < end (c .before .args .c))
+inside : (c : tie.After-origin) → (c .origin .result ≤ c .before .args .k) × (c .before .args .k - c .origin .result < endDay (c .before .args .c))
 inside c = years-inside (c .before .args .c) (c .before .args .k) (c .origin .result) (c .origin .ensures) (c .before .pre)
 
 origin-requires : tie.Need-origin-requires

@@ -1,55 +1,95 @@
--- `fixed_axis::read_double` meets its contract: proofs/Joined.antt.
-use mathlib.Core.Path.{_≡_, ap, _∙_}
-use lib.Ieee.{Float}
+-- `fixed_axis::read_double` meets its contract. proofs/Doubles.antt goes from the displacement to the definition.
+use mathlib.Core.Path.{_≡_, sym, ap, _∙_, subst}
+use Prim.Native.Nat.{ℕ, _<_, _^_}
+use native.Mathlib.Omega.{arith}
+use lib.IntN.{ℤ}
+use lib.Signed.{mag}
 use mir.Syntax.{w64}
-use mir.Val.{toZ, ofZ}
-use mir.ValLaws.{toZ-ofZ}
-use Rattle.signed.specs.Bias.{lower}
-use Rattle.axis_types.specs.declared.Reading.{Reading}
-use Rattle.fixed_axis.specs.Closed.{firstInstant, lastInstant}
-use Rattle.fixed_axis.proofs.Joined.{given-bounds, given-reading}
+use mir.Val.{SFits}
 use borrow.Author.Needs.{needs}
+use Rattle.axis_types.specs.Lengths.{lengthOf}
+use Rattle.instant.proofs.Range.{small}
+use Rattle.double.specs.declared.Displacement.{Displacement}
+use Rattle.double.specs.declared.DisplacementAnswer.{DisplacementAnswer}
+use Rattle.double.specs.declared.DisplacementAnswer.the-variants.{Is, Large, NotFinite}
+use Rattle.double.specs.Displacement.{AnswerOf}
+use Rattle.fixed_axis.specs.Fixed.{readingAt}
+use Rattle.fixed_axis.proofs.Displacements.{sum-fits, sum-is}
+use Rattle.fixed_axis.proofs.Doubles.{displaced, not-finite, large}
 use Rattle.fixed_axis.proofs.read_double.Statement.{statement}
 use Rattle.fixed_axis.proofs.read_double.Tie as tie
 
--- ---- what the call is given
-module _ (c : tie.After-microseconds) where
-  abbrev start : tie.Start
-  start = c .before .before .before
+-- what `displacement_of` says
+module _ (c : tie.After-displacement-of) where
+  abbrev a : tie.Start
+  a = c .before .before
 
-  first-is : toZ w64 (ofZ w64 (c .before .before .range-start .result)) ≡ lower (firstInstant (start .args .c))
-  first-is = let u = c .before .before .range-start in toZ-ofZ w64 (u .result) (record { sfits = u .ok }) ∙ u .ensures
+  said : (r : DisplacementAnswer) → c .displacement-of .result ≡ r → AnswerOf r (lengthOf (a .args .p)) (a .args .x)
+  said r e = subst (λ (P : ℕ). AnswerOf r P (a .args .x)) (c .before .scale-of .ensures .0) (subst (λ (k : DisplacementAnswer). AnswerOf k (c .before .scale-of .result .micros) (a .args .x)) e (c .displacement-of .ensures))
 
-  last-is : toZ w64 (ofZ w64 (c .before .range-end .result)) ≡ lower (lastInstant (start .args .c))
-  last-is = let u = c .before .range-end in toZ-ofZ w64 (u .result) (record { sfits = u .ok }) ∙ u .ensures
+scale-of-requires : tie.Need-scale-of-requires
+scale-of-requires c κs = search needs
 
-  reference-is : toZ w64 (ofZ w64 (start .args .reference)) ≡ start .args .reference
-  reference-is = toZ-ofZ w64 (start .args .reference) (start .fits .reference)
+displacement-of-requires : tie.Need-displacement-of-requires
+displacement-of-requires c κs = c .scale-of .ensures .1
 
-range-start-requires : tie.Need-range-start-requires
-range-start-requires c κs = search needs
-
-range-end-requires : tie.Need-range-end-requires
-range-end-requires c κs = search needs
-
-microseconds-requires : tie.Need-microseconds-requires
-microseconds-requires c κs = search needs
-
-read-double-requires : tie.Need-read-double-requires
-read-double-requires c κs = let a = start c .args in given-bounds (a .c) (a .p) (a .reference) _ _ _ _ (first-is c) (last-is c) (reference-is c) (c .microseconds .ensures)
+enum-told : tie.Need-enum-told
+enum-told c = search needs
 
 returns : tie.Need-returns
-returns c =
-    let m = c .before in
-    let a = start m .args in
-    c .read-double .ensures ∙ ap (λ (read : Float → Reading). read (a .x)) (given-reading (a .c) (a .p) (a .reference) _ _ _ _ (first-is m) (last-is m) (reference-is m) (m .microseconds .ensures))
+returns c = let q = c .before .before in not-finite (a q .args .c) (a q .args .p) (a q .args .reference) (a q .args .x) (said q NotFinite (c .enum-told .given .1))
+
+enum-told-2 : tie.Need-enum-told-2
+enum-told-2 c = search needs
+
+returns-2 : tie.Need-returns-2
+returns-2 c = let q = c .before .before in large (a q .args .c) (a q .args .p) (a q .args .reference) (a q .pre) (a q .args .x) (said q Large (c .enum-told2 .given .1))
+
+enum-known-a : tie.Need-enum-known-a
+enum-known-a c = search needs
+
+-- the displacement of the last arm
+module _ (c : tie.After-struct-told) where
+  abbrev q : tie.After-displacement-of
+  q = c .before .before .before .before .before
+
+  abbrev d : Displacement
+  d = c .before .before .before .a .given .0 .0
+
+  told : AnswerOf (Is d) (lengthOf (a q .args .p)) (a q .args .x)
+  told = said q (Is d) (c .before .before .before .a .given .1)
+
+  fits : SFits w64 (d .count)
+  fits = search needs
+
+  near : mag (a q .args .reference) < 2 ^ 59
+  near = omega (arith, small (a q .args .c) (a q .args .reference) (a q .pre))
+
+add-reading-at : tie.Need-add-reading-at
+add-reading-at c = sum-fits (a (q c) .args .reference) (d c .count) (a (q c) .fits .reference) (fits c) (near c) (told c .1)
+
+reading-at-requires : tie.Need-reading-at-requires
+reading-at-requires c κs = search needs
+
+returns-3 : tie.Need-returns-3
+returns-3 c =
+    let t = c .before in
+    let s = a (q t) in
+    c .reading-at .ensures
+    ∙ (ap (λ (z : ℤ). readingAt (s .args .c) z (d t .exact)) (sum-is (s .args .reference) (d t .count) (s .fits .reference) (fits t) (near t) (told t .1))
+    ∙ displaced (s .args .c) (s .args .p) (s .args .reference) (d t) (s .args .x) (told t .0))
 
 pub read-double-spec : {M : Type 1} → statement M
 read-double-spec =
     tie.close
     (tie.spec
-    range-start-requires
-    range-end-requires
-    microseconds-requires
-    read-double-requires
-    returns)
+    scale-of-requires
+    displacement-of-requires
+    enum-told
+    returns
+    enum-told-2
+    returns-2
+    enum-known-a
+    add-reading-at
+    reading-at-requires
+    returns-3)

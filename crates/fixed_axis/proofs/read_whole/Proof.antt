@@ -1,55 +1,60 @@
--- `fixed_axis::read_whole` meets its contract. Assumes nothing.
-use mathlib.Core.Path.{_≡_, sym, ap, _∙_}
-use mathlib.Core.Bool.{Bool, true, cond}
-use Rattle.refusal.specs.declared.Refusal.the-variants.{OutOfRange}
-use Rattle.signed.specs.Bias.{lower}
-use Rattle.signed.proofs.Machine.{crossed}
-use Rattle.instant.specs.Instant.{inRange}
-use Rattle.axis_types.specs.declared.Reading.{Reading}
-use Rattle.fixed_axis.specs.Fixed.{timeAfter, readingAt, fromReference, readWhole}
+-- `fixed_axis::read_whole` meets its contract.
+use mathlib.Core.Path.{_≡_, sym, ap, _∙_, subst}
+use mathlib.Core.Bool.{Bool, true, false}
+use Prim.Native.Nat.{ℕ, _*_, _≤_, _<_, _^_}
+use native.Mathlib.Nat.{le-trans, le-of-eq}
+use native.Mathlib.Omega.{arith}
+use lib.IntN.{ℤ, pos, natAbs, _*ℤ_}
+use lib.Signed.{mag}
+use mir.Syntax.{w64}
+use mir.ValLaws.{toZ-ofZ}
 use borrow.Author.Needs.{needs}
+use Rattle.axis_types.specs.Lengths.{lengthOf}
+use Rattle.instant.proofs.Range.{small}
+use Rattle.fixed_axis.specs.Closed.{Reaches}
+use Rattle.fixed_axis.specs.Fixed.{timeAfter, readingAt, readWhole}
+use Rattle.fixed_axis.proofs.Readings.{settled}
+use Rattle.fixed_axis.proofs.Displacements.{times-size, too-far}
 use Rattle.fixed_axis.proofs.read_whole.Statement.{statement}
 use Rattle.fixed_axis.proofs.read_whole.Tie as tie
 
-reference-is : (b : tie.After-biased) → lower (b .biased .result) ≡ b .before .args .reference
-reference-is b = crossed (b .before .args .reference) (b .biased .result) (b .before .fits .reference) (b .biased .ensures)
+said : (b : tie.After-reaches) {s : Bool} → b .reaches .result ≡ s → let a = b .before in Reaches s (lengthOf (a .args .p)) (a .args .n)
+said b {s} e =
+    let a = b .before in
+    subst (λ (t : Bool). Reaches t (lengthOf (a .args .p)) (a .args .n)) e
+    (subst (λ (z : ℤ). Reaches (b .reaches .result) (lengthOf (a .args .p)) z) (toZ-ofZ w64 (a .args .n) (a .fits .n)) (b .reaches .ensures))
 
-biased-requires : tie.Need-biased-requires
-biased-requires c κs = search needs
+reaches-requires : tie.Need-reaches-requires
+reaches-requires c κs = search needs
 
-in-range-requires : tie.Need-in-range-requires
-in-range-requires c κs = search needs
+time-at-requires : tie.Need-time-at-requires
+time-at-requires c κs =
+    let a = c .before .before in (
+      subst (λ (z : ℤ). mag z < 2 ^ 59) (sym (toZ-ofZ w64 (a .args .reference) (a .fits .reference))) (omega (arith, small (a .args .c) (a .args .reference) (a .pre))),
+      subst (λ (z : ℤ). natAbs z * lengthOf (a .args .p) ≤ 2 ^ 61) (sym (toZ-ofZ w64 (a .args .n) (a .fits .n))) (said (c .before) (c .if1 .taken)),
+    )
 
-biased-requires-2 : tie.Need-biased-requires-2
-biased-requires-2 c κs = search needs
-
-read-biased-requires : tie.Need-read-biased-requires
-read-biased-requires c κs = sym (c .before .before .in-range .ensures) ∙ c .before .if1 .taken
+reading-at-requires : tie.Need-reading-at-requires
+reading-at-requires c κs = search needs
 
 returns : tie.Need-returns
 unfolding readWhole
 returns c =
-    let b = c .before .before .before .before in
-    let a = b .before in
-    let n = c .before .biased2 .result in
-    c .read-biased .ensures
-    ∙ (ap (λ (t : Bool). cond t (readingAt (a .args .c) (timeAfter (a .args .p) (lower (b .biased .result)) (lower n)) true) (Reading.Refused OutOfRange)) (sym (sym (c .before .before .before .in-range .ensures) ∙ c .before .before .if1 .taken))
-    ∙ (λ i. fromReference (a .args .c) (reference-is b i) (readingAt (a .args .c) (timeAfter (a .args .p) (reference-is b i) (crossed (a .args .n) n (a .fits .n) (c .before .biased2 .ensures) i)) true)))
+    let t = c .before .time-at in
+    let a = c .before .before .before .before in
+    c .reading-at .ensures
+    ∙ (ap (λ (z : ℤ). readingAt (a .args .c) z true) (toZ-ofZ w64 (t .result) (record { sfits = t .ok }) ∙ t .ensures)
+    ∙ (λ i. readingAt (a .args .c) (timeAfter (a .args .p) (toZ-ofZ w64 (a .args .reference) (a .fits .reference) i) (toZ-ofZ w64 (a .args .n) (a .fits .n) i)) true))
 
 returns-2 : tie.Need-returns-2
 unfolding readWhole
 returns-2 c =
-    let b = c .before .before in
-    let a = b .before in
-    ap (λ (t : Bool). cond t (readingAt (a .args .c) (timeAfter (a .args .p) (a .args .reference) (a .args .n)) true) (Reading.Refused OutOfRange)) (sym (ap (inRange (a .args .c)) (sym (reference-is b)) ∙ (sym (c .before .in-range .ensures) ∙ c .if1 .left)))
+    let a = c .before .before in
+    let P = lengthOf (a .args .p) in
+    settled (a .args .c) (timeAfter (a .args .p) (a .args .reference) (a .args .n)) true
+    (too-far (a .args .c) (a .args .reference) (a .args .n *ℤ pos P) (a .pre) (le-trans (said (c .before) (c .if1 .left)) (le-of-eq (sym (times-size (a .args .n) P)))))
 
 pub read-whole-spec : {M : Type 1} → statement M
 read-whole-spec =
     tie.close
-    (tie.spec
-    biased-requires
-    in-range-requires
-    biased-requires-2
-    read-biased-requires
-    returns
-    returns-2)
+    (tie.spec reaches-requires time-at-requires reading-at-requires returns returns-2)

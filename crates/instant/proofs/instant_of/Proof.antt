@@ -1,22 +1,19 @@
 -- `instant::instant_of` meets its contract. Assumes nothing.
-use mathlib.Core.Path.{_≡_, refl, sym, ap, _∙_}
-use mathlib.Core.Bool.{Bool, true}
-use Prim.Native.Nat.{ℕ, _+_, _<_}
-use native.Mathlib.Omega.{arith}
-use lib.IntN.{pos, _+ℤ_, _*ℤ_}
+use mathlib.Core.Path.{_≡_, refl, sym, ap, _∙_, subst}
+use mathlib.Core.Bool.{Bool, true, cond}
+use Prim.Native.Nat.{ℕ, _<_}
+use lib.IntN.{ℤ}
+use lib.Signed.{mag}
 use mir.Syntax.{w64}
-use mir.Val.{SFits}
+use mir.Val.{SFits, toZ, ofZ}
 use mir.ValLaws.{toZ-ofZ}
-use Rattle.signed.specs.Bias.{lower}
-use Rattle.signed.proofs.Machine.{crossed}
 use Rattle.refusal.specs.declared.Refusal.the-variants.{NoSuchDate}
 use Rattle.calendar.specs.Answers.{dayAnswer}
 use Rattle.calendar.specs.declared.DayAnswer.{DayAnswer}
 use Rattle.calendar.proofs.Existing.{date-eq}
-use Rattle.calendar.proofs.Range.{Near}
-use Rattle.instant.specs.Instant.{isClock, clockTime, dateIn, withClock, pickInstant, instantAnswer}
+use Rattle.instant.specs.Instant.{isClock, clockTime, dateIn, instantAt, withClock, instantAnswer}
 use Rattle.instant.specs.declared.InstantAnswer.{InstantAnswer}
-use Rattle.instant.proofs.Clock.{clock-small, answered-near, raised-near, instant-at}
+use Rattle.instant.proofs.Clock.{clock-small, answered-small}
 use borrow.Author.Needs.{needs}
 use Rattle.instant.proofs.instant_of.Statement.{statement}
 use Rattle.instant.proofs.instant_of.Tie as tie
@@ -32,24 +29,29 @@ day-is d =
 told : (n : tie.After-n) → let s = n .before .before .before .before in DayAnswer.Is (n .n .given .0 .0) ≡ dayAnswer (s .args .c) (dateIn (s .args .f))
 told n = sym (n .n .given .1) ∙ day-is (n .before .before)
 
--- the day number is close to 1970, and what it is raised to
-close : (b : tie.After-biased) → Near (b .before .before .before .before .n .given .0 .0)
-close b =
-    let n = b .before .before .before .before in
-    let s = n .before .before .before .before in
-    answered-near (s .args .c) (dateIn (s .args .f)) (n .n .given .0 .0) (told n)
+-- the day number, as the call is given it
+module _ (c : tie.After-clock-time) where
+  abbrev n : tie.After-n
+  n = c .before .before .before .before
 
-number-is : (b : tie.After-biased) → lower (b .biased .result) ≡ b .before .before .before .before .n .given .0 .0
-number-is b = crossed (b .before .before .before .before .n .given .0 .0) (b .biased .result) (record { sfits = b .before .before .before .known-told2 .given .0 .1 }) (b .biased .ensures)
+  abbrev s : tie.Start
+  s = n .before .before .before .before
 
-raised : (b : tie.After-biased) → b .biased .result ≡ close b .number + 9223372036849775808
-raised b = raised-near (b .before .before .before .before .n .given .0 .0) (b .biased .result) (close b) (number-is b)
+  abbrev z : ℤ
+  z = n .n .given .0 .0
 
-is-clock-true : (b : tie.After-biased) → isClock (b .before .before .before .before .before .before .before .before .args .f) ≡ true
-is-clock-true b = sym (b .before .before .is-clock .ensures) ∙ b .before .if1 .taken
+  day-given : toZ w64 (ofZ w64 z) ≡ z
+  day-given = toZ-ofZ w64 z (record { sfits = c .before .before .before .known-told2 .given .0 .1 })
 
-time-small : (c : tie.After-clock-time) → c .clock-time .result < 86400000000
-time-small c = rw (c .clock-time .ensures) (clock-small (c .before .before .before .before .before .before .before .before .before .args .f) (is-clock-true (c .before)))
+  clock-true : isClock (s .args .f) ≡ true
+  clock-true = sym (c .before .before .is-clock .ensures) ∙ c .before .if1 .taken
+
+-- the answer, once the clock is tested
+settled : (n : tie.After-n) {b : Bool} → let s = n .before .before .before .before in isClock (s .args .f) ≡ b → cond b (InstantAnswer.Is (instantAt (n .n .given .0 .0) (clockTime (s .args .f)))) (InstantAnswer.Refused NoSuchDate) ≡ instantAnswer (s .args .c) (s .args .f)
+unfolding instantAnswer
+settled n e =
+    let f = n .before .before .before .before .args .f in
+    ap (λ (b : Bool). cond b (InstantAnswer.Is (instantAt (n .n .given .0 .0) (clockTime f))) (InstantAnswer.Refused NoSuchDate)) (sym e) ∙ ap (λ (a : DayAnswer). withClock a f) (told n)
 
 day-of-date-requires : tie.Need-day-of-date-requires
 day-of-date-requires c κs = search needs
@@ -69,50 +71,23 @@ enum-known-n c = search needs
 is-clock-requires : tie.Need-is-clock-requires
 is-clock-requires c κs = search needs
 
-biased-requires : tie.Need-biased-requires
-biased-requires c κs = search needs
-
-sub-k : tie.Need-sub-k
-sub-k c = search needs
-
-sub-k-2 : tie.Need-sub-k-2
-sub-k-2 c = omega (arith, raised c)
-
-mul-unbiased : tie.Need-mul-unbiased
-mul-unbiased c = record { fits = omega (arith, raised c, close c .low) }
-
 clock-time-requires : tie.Need-clock-time-requires
 clock-time-requires c κs = search needs
 
-add-unbiased : tie.Need-add-unbiased
-add-unbiased c = record { fits = omega (arith, raised (c .before), close (c .before) .low, time-small c) }
-
-sub-unbiased : tie.Need-sub-unbiased
-sub-unbiased c = search needs
-
-add-unbiased-2 : tie.Need-add-unbiased-2
-add-unbiased-2 c = record { fits = omega (arith, raised (c .before), close (c .before) .low, time-small c) }
-
-unbiased-requires : tie.Need-unbiased-requires
-unbiased-requires c κs = search needs
+instant-at-requires : tie.Need-instant-at-requires
+instant-at-requires c κs = (
+  subst (λ (w : ℤ). mag w < 5000000) (sym (day-given c)) (answered-small (s c .args .c) (dateIn (s c .args .f)) (z c) (told (n c))),
+  subst (λ (k : ℕ). k < 86400000000) (sym (c .clock-time .ensures)) (clock-small (s c .args .f) (clock-true c)),
+)
 
 returns-2 : tie.Need-returns-2
-unfolding instantAnswer
 returns-2 c =
-    let b = c .before .before in
-    let n = b .before .before .before .before in
-    let s = n .before .before .before .before in
-    let t = c .before .clock-time .result in
-    let r = c .unbiased .result in
-    ap InstantAnswer.Is (toZ-ofZ w64 r (record { sfits = c .unbiased .ok }) ∙ (c .unbiased .ensures ∙ (instant-at (n .n .given .0 .0) (b .biased .result) (close b) (number-is b) t ∙ ap (λ (x : ℕ). n .n .given .0 .0 *ℤ pos 86400000000 +ℤ pos x) (c .before .clock-time .ensures))))
-    ∙ (ap (λ (b : Bool). pickInstant b (InstantAnswer.Is (n .n .given .0 .0 *ℤ pos 86400000000 +ℤ pos (clockTime (s .args .f)))) (InstantAnswer.Refused NoSuchDate)) (sym (is-clock-true b)) ∙ ap (λ (a : DayAnswer). withClock a (s .args .f)) (told n))
+    let k = c .before in
+    ap InstantAnswer.Is (toZ-ofZ w64 (c .instant-at .result) (record { sfits = c .instant-at .ok }) ∙ (c .instant-at .ensures ∙ (λ i. instantAt (day-given k i) (k .clock-time .ensures i))))
+    ∙ settled (n k) (clock-true k)
 
 returns-3 : tie.Need-returns-3
-unfolding instantAnswer
-returns-3 c =
-    let n = c .before .before .before in
-    let s = n .before .before .before .before in
-    ap (λ (b : Bool). pickInstant b (InstantAnswer.Is (n .n .given .0 .0 *ℤ pos 86400000000 +ℤ pos (clockTime (s .args .f)))) (InstantAnswer.Refused NoSuchDate)) (sym (sym (c .before .is-clock .ensures) ∙ c .if1 .left)) ∙ ap (λ (a : DayAnswer). withClock a (s .args .f)) (told n)
+returns-3 c = settled (c .before .before .before) (sym (c .before .is-clock .ensures) ∙ c .if1 .left)
 
 pub instant-of-spec : {M : Type 1} → statement M
 instant-of-spec =
@@ -123,14 +98,7 @@ instant-of-spec =
     returns
     enum-known-n
     is-clock-requires
-    biased-requires
-    sub-k
-    sub-k-2
-    mul-unbiased
     clock-time-requires
-    add-unbiased
-    sub-unbiased
-    add-unbiased-2
-    unbiased-requires
+    instant-at-requires
     returns-2
     returns-3)

@@ -7,17 +7,12 @@ use mathlib.Core.Bool.{Bool}
 use mir.ValLaws.{toZ-ofZ}
 use mir.Syntax.{w64}
 use lib.IntN.{_-ℤ_}
-use mir.ValLaws.{toZ-ofZ}
-use mir.Syntax.{w64}
-use lib.IntN.{_-ℤ_}
-use mir.ValLaws.{toZ-ofZ}
-use mir.Syntax.{w64}
-use lib.IntN.{_-ℤ_}
 use Rattle.instant.specs.declared.InstantAnswer.{InstantAnswer}
+use Rattle.instant.proofs.Range.{near}
 use Rattle.signed.specs.Bias.{lower}
 use Rattle.signed.proofs.Machine.{crossed}
 use Rattle.written_instant.specs.Instants.{signedOf, zoneLength}
-use Rattle.written_instant.proofs.Laws.{taken-off, added, range-low, range-high, bad-hours, bad-minutes, zone-off, zone-zero}
+use Rattle.written_instant.proofs.Laws.{taken-off, added, bad-hours, bad-minutes, zone-off, zone-zero}
 use Rattle.written_instant.proofs.less_zone.Statement.{statement}
 use Rattle.written_instant.proofs.less_zone.Tie as tie
 
@@ -54,17 +49,14 @@ returns-3 c =
 raised : (b : tie.After-biased) → lower (b .biased .result) ≡ b .before .before .before .before .before .before .before .before .args .t
 raised b = let st = b .before .before .before .before .before .before .before .before in crossed (st .args .t) (b .biased .result) (st .fits .t) (b .biased .ensures)
 
-low : (b : tie.After-biased) → 8646911284551352320 ≤ b .biased .result
-low b = let st = b .before .before .before .before .before .before .before .before in range-low (st .args .c) (st .args .t) (b .biased .result) (raised b) (st .pre)
-
-high : (b : tie.After-biased) → b .biased .result < 9799832789158199296
-high b = let st = b .before .before .before .before .before .before .before .before in range-high (st .args .c) (st .args .t) (b .biased .result) (raised b) (st .pre)
+close : (b : tie.After-biased) → (8646911284551352320 ≤ b .biased .result) × (b .biased .result < 9799832789158199296)
+close b = let st = b .before .before .before .before .before .before .before .before in near (st .args .c) (st .args .t) (b .biased .result) (raised b) (st .pre)
 
 biased-requires : tie.Need-biased-requires
 biased-requires c κs = search needs
 
 add-unbiased : tie.Need-add-unbiased
-add-unbiased c = record { fits = omega (arith, high (c .before)) }
+add-unbiased c = record { fits = omega (arith, close (c .before) .1) }
 
 unbiased-requires : tie.Need-unbiased-requires
 unbiased-requires c κs = search needs
@@ -84,7 +76,7 @@ returns-4 c =
     (toZ-ofZ w64 (u .unbiased .result) (record { sfits = u .unbiased .ok }) ∙ (u .unbiased .ensures ∙ (added (a .t) (b .biased .result) (zoneLength (a .z)) (raised b) ∙ ap (λ (s : Bool). a .t -ℤ signedOf s (zoneLength (a .z))) (sym (u .before .if4 .taken)))))
 
 sub-unbiased : tie.Need-sub-unbiased
-sub-unbiased c = omega (arith, low (c .before))
+sub-unbiased c = omega (arith, close (c .before) .0)
 
 unbiased-requires-2 : tie.Need-unbiased-requires-2
 unbiased-requires-2 c κs = search needs
@@ -101,7 +93,7 @@ returns-5 c =
     let a = e .before .before .args in
     c .ranged-instant2 .ensures
     ∙ zone-off (a .c) (a .z) (a .t) (e .if1 .left) (f .if2 .left) _
-    (toZ-ofZ w64 (u .unbiased2 .result) (record { sfits = u .unbiased2 .ok }) ∙ (u .unbiased2 .ensures ∙ (taken-off (a .t) (b .biased .result) (zoneLength (a .z)) (raised b) (omega (arith, low b)) ∙ ap (λ (s : Bool). a .t -ℤ signedOf s (zoneLength (a .z))) (sym (u .before .if4 .left)))))
+    (toZ-ofZ w64 (u .unbiased2 .result) (record { sfits = u .unbiased2 .ok }) ∙ (u .unbiased2 .ensures ∙ (taken-off (a .t) (b .biased .result) (zoneLength (a .z)) (raised b) (omega (arith, close b .0)) ∙ ap (λ (s : Bool). a .t -ℤ signedOf s (zoneLength (a .z))) (sym (u .before .if4 .left)))))
 
 pub less-zone-spec : {M : Type 1} → statement M
 less-zone-spec =

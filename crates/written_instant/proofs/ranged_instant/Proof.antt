@@ -1,42 +1,30 @@
--- `written_instant::ranged_instant` meets its contract: an instant has fields where it lies in the range.
-use borrow.Author.Needs.{needs}
+-- `written_instant::ranged_instant` meets its contract.
 use mathlib.Core.Path.{_≡_, sym, ap, _∙_}
-use mir.ValLaws.{toZ-ofZ}
+use mathlib.Core.Bool.{Bool, cond}
 use mir.Syntax.{w64}
 use mir.ValLaws.{toZ-ofZ}
-use mir.Syntax.{w64}
-use mir.ValLaws.{toZ-ofZ}
-use mir.Syntax.{w64}
-use Rattle.instant.specs.Instant.{fieldsAnswer}
+use borrow.Author.Needs.{needs}
+use Rattle.refusal.specs.declared.Refusal.the-variants.{OutOfRange}
+use Rattle.instant.specs.Instant.{inRange}
 use Rattle.instant.specs.declared.InstantAnswer.{InstantAnswer}
-use Rattle.written_instant.proofs.Laws.{range-in, range-out}
+use Rattle.written_instant.specs.Instants.{ranged}
 use Rattle.written_instant.proofs.ranged_instant.Statement.{statement}
 use Rattle.written_instant.proofs.ranged_instant.Tie as tie
 
-fields-of-requires : tie.Need-fields-of-requires
-fields-of-requires c κs = search needs
+-- the answer, once the range is tested
+settled : (b : tie.After-in-range) {t : Bool} → b .in-range .result ≡ t → cond t (InstantAnswer.Is (b .before .args .t)) (InstantAnswer.Refused OutOfRange) ≡ ranged (b .before .args .c) (b .before .args .t)
+settled b e =
+    let a = b .before in
+    ap (λ (t : Bool). cond t (InstantAnswer.Is (a .args .t)) (InstantAnswer.Refused OutOfRange)) (sym e ∙ (b .in-range .ensures ∙ ap (inRange (a .args .c)) (toZ-ofZ w64 (a .args .t) (a .fits .t))))
 
-enum-told : tie.Need-enum-told
-enum-told c = search needs
-
--- the answer is that of the instant
-fields : (a : tie.After-fields-of) → fieldsAnswer (a .before .args .c) (a .before .args .t) ≡ a .fields-of .result
-fields a = sym (a .fields-of .ensures ∙ ap (fieldsAnswer (a .before .args .c)) (toZ-ofZ w64 (a .before .args .t) (a .before .fits .t)))
+in-range-requires : tie.Need-in-range-requires
+in-range-requires c κs = search needs
 
 returns : tie.Need-returns
-returns c =
-    let a = c .before .before in
-    let e = toZ-ofZ w64 (a .before .args .t) (a .before .fits .t) in
-    ap InstantAnswer.Is e ∙ sym (range-in (a .before .args .c) (a .before .args .t) _ (fields a ∙ c .enum-told .given .1))
-
-enum-told-2 : tie.Need-enum-told-2
-enum-told-2 c = search needs
+returns c = let a = c .before .before in ap InstantAnswer.Is (toZ-ofZ w64 (a .args .t) (a .fits .t)) ∙ settled (c .before) (c .if1 .taken)
 
 returns-2 : tie.Need-returns-2
-returns-2 c =
-    let a = c .before .before in
-    sym (range-out (a .before .args .c) (a .before .args .t) _ (fields a ∙ c .enum-told2 .given .1))
+returns-2 c = settled (c .before) (c .if1 .left)
 
 pub ranged-instant-spec : {M : Type 1} → statement M
-ranged-instant-spec =
-    tie.close (tie.spec fields-of-requires enum-told returns enum-told-2 returns-2)
+ranged-instant-spec = tie.close (tie.spec in-range-requires returns returns-2)

@@ -7,7 +7,7 @@ use mir.Syntax.{w64}
 use mir.ValLaws.{toZ-ofZ}
 use Rattle.signed.proofs.Differences.{same-diff}
 use Rattle.calendar.specs.Calendar.{hasYearZero, kind, date, dateOf}
-use Rattle.calendar.specs.Closed.{yearAt, monthStart, base}
+use Rattle.calendar.specs.Closed.{yearAt, monthStart, epochDay}
 use Rattle.calendar.proofs.Existing.{Valid, valid-of, kind-low, long}
 use Rattle.calendar.proofs.Tables.{month-room}
 use Rattle.calendar.proofs.Range.{small}
@@ -70,8 +70,8 @@ returns c =
     let n = o .before .day-at .result in
     let d = m .month-start .result + (s .args .day - 1) in
     let ordinal = ap (λ (k : ℕ). k + (s .args .day - 1)) (m .month-start .ensures ∙ ap (λ (k : ℕ). monthStart k (s .args .month - 1)) (m .before .kind-of .ensures)) in
-    let day = same-diff (n + o .origin .result) 9223372036854775808 n (base (s .args .c)) (omega (arith, o .origin .ensures, small (s .args .c))) in
-    ap (dateOf (s .args .c)) (toZ-ofZ w64 (c .unbiased .result) (record { sfits = c .unbiased .ok }) ∙ (c .unbiased .ensures ∙ (day ∙ ap (λ (k : ℕ). subℕ k (base (s .args .c))) (o .before .day-at .ensures))))
+    let day = same-diff (n + o .origin .result) 9223372036854775808 n (epochDay (s .args .c)) (omega (arith, o .origin .ensures, small (s .args .c))) in
+    ap (dateOf (s .args .c)) (toZ-ofZ w64 (c .unbiased .result) (record { sfits = c .unbiased .ok }) ∙ (c .unbiased .ensures ∙ (day ∙ ap (λ (k : ℕ). subℕ k (epochDay (s .args .c))) (o .before .day-at .ensures))))
     ∙ numbered (s .args .c) (s .args .y) (s .args .month) (s .args .day) d (valid s) ordinal
 
 pub day-in-year-spec : {M : Type 1} → statement M
