@@ -33,7 +33,7 @@ use Rattle.step.specs.Steps.{dateAfter}
 use Rattle.step.specs.declared.Part.{Part}
 use Rattle.fixed_axis.specs.Fixed.{timeAfter, readDouble}
 use Rattle.fixed_axis.proofs.Offsets.{read-of}
-use Rattle.fixed_axis.proofs.Between as Fixed
+use Rattle.fixed_axis.proofs.Between as Between
 use Rattle.fixed_axis.proofs.Demands as Fixed
 use Rattle.calendar_axis.specs.Steps.{dateAt}
 use Rattle.calendar_axis.proofs.Demands as Steps
@@ -60,7 +60,7 @@ module _ (c : Calendar) (p : Period) (R : ℤ) (good : inRange c R ≡ true) whe
       record {
         inside = λ n t exact h. read-of c p R n t exact h .inside;
         only-past = Fixed.only-past c p R;
-        between = λ x y z t u i j h g f e. (timeAfter p R y, Fixed.whole-between c p R x y z t u i j h g f e);
+        between = λ x y z t u i j h g f e. (timeAfter p R y, Between.whole-between c p R x y z t u i j h g f e);
         written-reads = Fixed.written-reads c p R;
         written-fits = λ t n g. Fixed.written-fits c p R t n good g;
         read-writes = Fixed.read-writes c p R;
@@ -92,11 +92,11 @@ module _ (c : Calendar) (p : Period) (R : ℤ) (good : inRange c R ≡ true) (s 
       }
 
   -- with the test of the instant before it
-  write : ℤ → OffsetAnswer
+  abbrev pub write : ℤ → OffsetAnswer
   write t = cond (inRange c t) (writeBy s c p R t) (OffsetAnswer.Refused OutOfRange)
 
   written : (t n : ℤ) → write t ≡ OffsetAnswer.Is n → (inRange c t ≡ true) × (writeBy s c p R t ≡ OffsetAnswer.Is n)
-  unfolding write
+
   written t n = go (inRange c t)
     where
       go : (q : Bool) → cond q (writeBy s c p R t) (OffsetAnswer.Refused OutOfRange) ≡ OffsetAnswer.Is n → (q ≡ true) × (writeBy s c p R t ≡ OffsetAnswer.Is n)
@@ -104,11 +104,11 @@ module _ (c : Calendar) (p : Period) (R : ℤ) (good : inRange c R ≡ true) (s 
       go false h = absurd (let k : _≡_ {A = ℕ} 0 1 = cc in omega arith)
 
   inside-writes : (t : ℤ) → inRange c t ≡ true → write t ≡ writeBy s c p R t
-  unfolding write
+
   inside-writes t h = rw h
 
   pub by-writing : InstantWriting c (readBy s c p R) write
-  unfolding write
+
   by-writing =
       record {
         written-reads = λ t n h. let w = written t n h in b .written-reads t n (w .0) (w .1);
@@ -126,7 +126,7 @@ module _ (a : Axis) where
       subst (λ (f : ℤ → Reading). WholeReading (a .calendar) f) (λ i n. onGood (g i) Reading.Refused (wholeOn a n)) (by-reading (a .calendar) (a .period) (a .reference) (in-good a g) (stepOn a))
 
   pub writing : AxisCheck.Good ≡ axisCheck a → InstantWriting (a .calendar) (λ (n : ℤ). readWholeOn a n) (λ (t : ℤ). writeInstantOn a t)
-  unfolding readWholeOn writeInstantOn write
+  unfolding readWholeOn writeInstantOn
   writing g =
       subst (λ (f : (ℤ → Reading) × (ℤ → OffsetAnswer)). InstantWriting (a .calendar) (f .0) (f .1))
       (λ i. ((λ (n : ℤ). onGood (g i) Reading.Refused (wholeOn a n)), (λ (t : ℤ). onGood (g i) OffsetAnswer.Refused (cond (inRange (a .calendar) t) (offsetOn a t) (OffsetAnswer.Refused OutOfRange)))))
@@ -181,5 +181,5 @@ pub double-between : (a : Axis) → a .mode ≡ Mode.Fixed → (x y z : Float) (
 unfolding readDoubleOn
 double-between a m x y z t u i j f g p q =
     let good = read-good (axisCheck a) (doubleOn a x) t i p in
-    let w = Fixed.double-between (a .calendar) (a .period) (a .reference) x y z t u i j f g (sym (fixed-double a x good m) ∙ p) (sym (fixed-double a z good m) ∙ q) in
+    let w = Between.double-between (a .calendar) (a .period) (a .reference) x y z t u i j f g (sym (fixed-double a x good m) ∙ p) (sym (fixed-double a z good m) ∙ q) in
     (w .0, w .1, fixed-double a y good m ∙ w .2)

@@ -104,7 +104,7 @@ fn write_on(axis: Axis, t: i64) -> OffsetAnswer
     let c = axis.calendar;
     let p = axis.period;
     match step_on(axis) {
-        Step::Time => return fixed_axis::write_instant(c, p, axis.reference, t),
+        Step::Time => return fixed_axis::write_instant(p, axis.reference, t),
         Step::Date(part) => return calendar_axis::write_instant(c, part, axis.reference, t),
     }
 }

@@ -1,0 +1,40 @@
+-- `axis::read_double` meets its contract: the check of the axis first.
+use mathlib.Core.Path.{_≡_, sym, ap, _∙_}
+use mir.Syntax.{w64}
+use mir.ValLaws.{toZ-ofZ}
+use Rattle.axis_types.specs.declared.Reading.{Reading}
+use Rattle.axis.specs.Axis.{axisCheck, onGood, doubleOn, readDoubleOn}
+use Rattle.axis.specs.declared.AxisCheck.{AxisCheck}
+use Rattle.axis.proofs.Laws.{in-good}
+use borrow.Author.Needs.{needs}
+use Rattle.axis.proofs.read_double.Statement.{statement}
+use Rattle.axis.proofs.read_double.Tie as tie
+
+settled : (k : tie.After-check-axis) (a : AxisCheck) → k .check-axis .result ≡ a → onGood a Reading.Refused (doubleOn (k .before .args .axis) (k .before .args .x)) ≡ readDoubleOn (k .before .args .axis) (k .before .args .x)
+unfolding readDoubleOn
+settled k a e = ap (λ (a : AxisCheck). onGood a Reading.Refused (doubleOn (k .before .args .axis) (k .before .args .x))) (sym e ∙ k .check-axis .ensures)
+
+check-axis-requires : tie.Need-check-axis-requires
+check-axis-requires c κs = search needs
+
+enum-known-r : tie.Need-enum-known-r
+enum-known-r c = search needs
+
+returns : tie.Need-returns
+returns c = settled (c .before .before .before) _ (c .before .r .given .1)
+
+enum-told : tie.Need-enum-told
+enum-told c = search needs
+
+read-double-on-requires : tie.Need-read-double-on-requires
+read-double-on-requires c κs = let k = c .before .before in in-good (k .before .args .axis) (sym (c .enum-told .given .1) ∙ k .check-axis .ensures)
+
+returns-2 : tie.Need-returns-2
+returns-2 c =
+    let k = c .before .before .before in
+    c .read-double-on .ensures ∙ settled k _ (c .before .enum-told .given .1)
+
+pub read-double-spec : {M : Type 1} → statement M
+read-double-spec =
+    tie.close
+    (tie.spec check-axis-requires enum-known-r returns enum-told read-double-on-requires returns-2)

@@ -1,0 +1,70 @@
+-- `axis::read_whole_on` meets its contract: by what the axis's step says.
+use mathlib.Core.Path.{_≡_, sym, ap, _∙_}
+use mathlib.Core.Bool.{true}
+use lib.IntN.{ℤ}
+use mir.Syntax.{w64}
+use mir.Val.{SFits, toZ, ofZ}
+use mir.ValLaws.{toZ-ofZ}
+use Rattle.instant.specs.Instant.{inRange}
+use Rattle.axis_types.specs.declared.Axis.{Axis}
+use Rattle.fixed_axis.specs.Fixed.{readWhole}
+use Rattle.calendar_axis.specs.Steps.{readSteps}
+use Rattle.axis.specs.Axis.{readBy, wholeOn}
+use Rattle.axis.specs.declared.Step.{Step}
+use borrow.Author.Needs.{needs}
+use Rattle.axis.proofs.read_whole_on.Statement.{statement}
+use Rattle.axis.proofs.read_whole_on.Tie as tie
+use Rattle.fixed_axis.proofs.read_whole.Reads as read-whole-reads′
+
+-- what the axis's step says, and the reference and the offset as they cross into the call
+module _ (s : tie.After-step-on) where
+  abbrev axis : Axis
+  axis = s .before .args .axis
+
+  reference-is : toZ w64 (ofZ w64 (axis .reference)) ≡ axis .reference
+  reference-is = let f : SFits w64 (axis .reference) = search needs in toZ-ofZ w64 (axis .reference) f
+
+  given-is : toZ w64 (ofZ w64 (s .before .args .n)) ≡ s .before .args .n
+  given-is = toZ-ofZ w64 (s .before .args .n) (s .before .fits .n)
+
+  by : (k : Step) → s .step-on .result ≡ k → readBy k (axis .calendar) (axis .period) (axis .reference) (s .before .args .n) ≡ wholeOn axis (s .before .args .n)
+  by k e = ap (λ (k : Step). readBy k (axis .calendar) (axis .period) (axis .reference) (s .before .args .n)) (sym e ∙ s .step-on .ensures)
+
+step-on-requires : tie.Need-step-on-requires
+step-on-requires c κs = search needs
+
+enum-told : tie.Need-enum-told
+enum-told c = search needs
+
+read-whole-requires : tie.Need-read-whole-requires
+read-whole-requires c κs = search needs
+
+returns : tie.Need-returns
+returns c =
+    let k = c .before .before in
+    let s = k .before .before in
+    c .read-whole .ensures ∙ ((λ i. readWhole (axis s .calendar) (axis s .period) (reference-is s i) (given-is s i)) ∙ by s Step.Time (k .enum-told .given .1))
+
+enum-known-part : tie.Need-enum-known-part
+enum-known-part c = search needs
+
+read-whole-requires-2 : tie.Need-read-whole-requires-2
+read-whole-requires-2 c κs = search needs
+
+returns-2 : tie.Need-returns-2
+returns-2 c =
+    let k = c .before .before .before in
+    let s = k .before .before in
+    c .read-whole2 .ensures ∙ ((λ i. readSteps (k .part .given .0 .0) (axis s .calendar) (reference-is s i) (given-is s i)) ∙ by s (Step.Date (k .part .given .0 .0)) (k .part .given .1))
+
+pub read-whole-on-spec : {M : Type 1} → statement M
+read-whole-on-spec =
+    tie.close
+    (tie.spec
+    step-on-requires
+    enum-told
+    read-whole-requires
+    returns
+    enum-known-part
+    read-whole-requires-2
+    returns-2)
