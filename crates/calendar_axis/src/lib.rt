@@ -4,8 +4,6 @@
 ghost use mathlib.Core.Path.{_≡_};
 ghost use mathlib.Core.Bool.{true};
 ghost use Prim.Native.Nat.{_<_};
-ghost use lib.IntN.{pos, _+ℤ_, _*ℤ_};
-ghost use Rattle.calendar.specs.Calendar.{dateOf, inYears};
 ghost use Rattle.instant.specs.Instant.{dayLength, inRange};
 ghost use Rattle.step.specs.Closed.{YearOf};
 ghost use Rattle.axis_types.specs.Reading.{isRead};
@@ -34,14 +32,13 @@ pub fn start_of(c: Calendar, reference: i64) -> Start
     requires { ⌜ inRange c reference ≡ true ⌝ }
     ensures { λ s. ⌜ StartOf c reference s ⌝ }
 {
-    // the reference counted from the beginning of day -106751992
-    let n = signed::biased(reference) + 71945224192;
-    match calendar::date_of_biased_day(c, n / 86400000000 + (0x8000_0000_0000_0000 - 106751992)) {
+    let s = instant::day_and_time(reference);
+    match calendar::date_of_biased_day(c, s.day) {
         DateAnswer::Is(date) => {
             return Start {
                 date,
                 year: step::year_of(c, date),
-                time: n % 86400000000,
+                time: s.time,
             };
         }
         // no reference in the range comes here
@@ -59,16 +56,6 @@ pub fn start_of(c: Calendar, reference: i64) -> Start
     }
 }
 
-// The instant at a time of a day whose date lies in the years -9999 to 9999.
-fn instant_at(c: Calendar, day: i64, time: u64) -> i64
-    requires { ⌜ (inYears (dateOf c day .year) ≡ true) × (time < dayLength) ⌝ }
-    ensures { λ t. ⌜ t ≡ day *ℤ pos dayLength +ℤ pos time ⌝ }
-{
-    // the day counted from day -5000000
-    let k = signed::biased(day) - (0x8000_0000_0000_0000 - 5000000);
-    signed::unbiased(k * 86400000000 + time + (0x8000_0000_0000_0000 - 432000000000000000))
-}
-
 // A whole offset from a start; OutOfRange for the instant.
 pub fn read_from(c: Calendar, part: Part, s: Start, n: i64) -> Reading
     requires { ⌜ YearOf c (s .date) (s .year) × (s .time < dayLength) ⌝ }
@@ -77,7 +64,7 @@ pub fn read_from(c: Calendar, part: Part, s: Start, n: i64) -> Reading
     let date = s.date;
     match step::day_reached(c, part, date, s.year, n) {
         DayAnswer::Refused(r) => return Reading::Refused(r),
-        DayAnswer::Is(day) => return Reading::At(instant_at(c, day, s.time), true),
+        DayAnswer::Is(day) => return Reading::At(instant::instant_at(day, s.time), true),
     }
 }
 
@@ -87,7 +74,7 @@ pub fn instant_after(c: Calendar, part: Part, s: Start, n: i64) -> i64
     ensures { λ t. ⌜ Reading.At t true ≡ readFrom part c (s .date) (s .time) n ⌝ }
 {
     let date = s.date;
-    instant_at(c, step::day_after(c, part, date, s.year, n), s.time)
+    instant::instant_at(step::day_after(c, part, date, s.year, n), s.time)
 }
 
 // A whole offset from a reference in the range; OutOfRange for the instant.

@@ -1,7 +1,9 @@
 -- `calendar_axis::instant_after` meets its contract: the day that is reached, and the time of day.
 use mathlib.Core.Path.{_≡_, ap, _∙_}
 use mathlib.Core.Bool.{true}
-use lib.IntN.{ℤ, pos, _+ℤ_, _*ℤ_}
+use native.Mathlib.Omega.{arith}
+use lib.IntN.{ℤ}
+use lib.Signed.{mag}
 use mir.Syntax.{w64}
 use mir.Val.{toZ, ofZ}
 use mir.ValLaws.{toZ-ofZ}
@@ -9,6 +11,8 @@ use Rattle.calendar.specs.Calendar.{exists, dateOf, inYears}
 use Rattle.calendar.specs.declared.Date.{Date}
 use Rattle.calendar.specs.declared.DayAnswer.{DayAnswer}
 use Rattle.calendar.proofs.Answering.{date-there}
+use Rattle.instant.specs.Instant.{instantAt}
+use Rattle.instant.proofs.Clock.{day-small}
 use Rattle.step.specs.Steps.{dateAfter}
 use Rattle.step.proofs.Theorems.{steps-exist}
 use Rattle.axis_types.specs.declared.Reading.{Reading}
@@ -46,13 +50,13 @@ day-after-requires c κs = let s = c .before in (s .pre .0, ap (λ (d : Date). i
 instant-at-requires : tie.Need-instant-at-requires
 instant-at-requires c κs =
     let s = start c in
-    (ap (λ (z : ℤ). inYears (dateOf (s .args .c) z .year)) (day-is c) ∙ (ap (λ (d : Date). inYears (d .year)) (date-is c) ∙ inside s), s .pre .1)
+    (omega (arith, day-small (s .args .c) (c .day-after .result) (ap (λ (d : Date). inYears (d .year)) (date-is c) ∙ inside s), ap mag (day-is c)), s .pre .1)
 
 returns : tie.Need-returns
 returns c =
     let d = c .before in
     let s = start d in
-    ap (λ (t : ℤ). Reading.At t true) (toZ-ofZ w64 (c .instant-at .result) (record { sfits = c .instant-at .ok }) ∙ (c .instant-at .ensures ∙ ap (λ (z : ℤ). z *ℤ pos 86400000000 +ℤ pos (s .args .s .time)) (day-is d)))
+    ap (λ (t : ℤ). Reading.At t true) (toZ-ofZ w64 (c .instant-at .result) (record { sfits = c .instant-at .ok }) ∙ (c .instant-at .ensures ∙ ap (λ (z : ℤ). instantAt z (s .args .s .time)) (day-is d)))
     ∙ ap (λ (a : DayAnswer). onDay a (s .args .s .time)) (date-there (s .args .c) (moved s (s .args .n)) (d .day-after .result) (inside s) (there s) (date-is d))
 
 pub instant-after-spec : {M : Type 1} → statement M

@@ -1,14 +1,15 @@
 -- `calendar_axis::read_from` meets its contract: the day that is reached, and the time of day.
 use mathlib.Core.Path.{_≡_, sym, ap, _∙_}
 use mathlib.Core.Bool.{true}
-use lib.IntN.{ℤ, pos, _+ℤ_, _*ℤ_}
+use native.Mathlib.Omega.{arith}
+use lib.IntN.{ℤ}
+use lib.Signed.{mag}
 use mir.Syntax.{w64}
 use mir.ValLaws.{toZ-ofZ}
-use Rattle.calendar.specs.Calendar.{dateOf, inYears}
 use Rattle.calendar.specs.Answers.{dayAnswer}
-use Rattle.calendar.specs.declared.Date.{Date}
 use Rattle.calendar.specs.declared.DayAnswer.{DayAnswer}
-use Rattle.calendar.proofs.Theorems.{answered}
+use Rattle.instant.specs.Instant.{instantAt}
+use Rattle.instant.proofs.Clock.{answered-small}
 use Rattle.step.specs.Steps.{dateAfter}
 use Rattle.axis_types.specs.declared.Reading.{Reading}
 use Rattle.calendar_axis.specs.Steps.{onDay}
@@ -47,8 +48,8 @@ instant-at-requires c κs =
     let d = c .before .before .before in
     let z = c .before .day .given .0 .0 in
     let f = toZ-ofZ w64 z (record { sfits = c .known-told2 .given .0 .1 }) in
-    let n = answered (start d .args .c) (dateAfter (start d .args .part) (start d .args .c) (start d .args .n) (start d .args .s .date)) z (sym (c .before .day .given .1) ∙ answer-is d) in
-    (ap (λ (w : ℤ). inYears (dateOf (start d .args .c) w .year)) f ∙ (ap (λ (x : Date). inYears (x .year)) (n .is) ∙ n .inside), start d .pre .1)
+    let n = answered-small (start d .args .c) (dateAfter (start d .args .part) (start d .args .c) (start d .args .n) (start d .args .s .date)) z (sym (c .before .day .given .1) ∙ answer-is d) in
+    (omega (arith, n, ap mag f), start d .pre .1)
 
 returns-2 : tie.Need-returns-2
 returns-2 c =
@@ -56,7 +57,7 @@ returns-2 c =
     let d = k .before .before .before in
     let z = k .before .day .given .0 .0 in
     let f = toZ-ofZ w64 z (record { sfits = k .known-told2 .given .0 .1 }) in
-    ap (λ (t : ℤ). Reading.At t true) (toZ-ofZ w64 (c .instant-at .result) (record { sfits = c .instant-at .ok }) ∙ (c .instant-at .ensures ∙ ap (λ (w : ℤ). w *ℤ pos 86400000000 +ℤ pos (start d .args .s .time)) f))
+    ap (λ (t : ℤ). Reading.At t true) (toZ-ofZ w64 (c .instant-at .result) (record { sfits = c .instant-at .ok }) ∙ (c .instant-at .ensures ∙ ap (λ (w : ℤ). instantAt w (start d .args .s .time)) f))
     ∙ reading d (DayAnswer.Is z) (k .before .day .given .1)
 
 pub read-from-spec : {M : Type 1} → statement M
