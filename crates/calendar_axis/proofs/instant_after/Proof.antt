@@ -1,7 +1,7 @@
 -- `calendar_axis::instant_after` meets its contract: the day that is reached, and the time of day.
-use mathlib.Core.Path.{_≡_, ap, _∙_}
+use mathlib.Core.Path.{_≡_, sym, ap, _∙_, subst}
+use Prim.Native.Nat.{_<_}
 use mathlib.Core.Bool.{true}
-use native.Mathlib.Omega.{arith}
 use lib.IntN.{ℤ}
 use lib.Signed.{mag}
 use mir.Syntax.{w64}
@@ -50,7 +50,7 @@ day-after-requires c κs = let s = c .before in (s .pre .0, ap (λ (d : Date). i
 instant-at-requires : tie.Need-instant-at-requires
 instant-at-requires c κs =
     let s = start c in
-    (omega (arith, day-small (s .args .c) (c .day-after .result) (ap (λ (d : Date). inYears (d .year)) (date-is c) ∙ inside s), ap mag (day-is c)), s .pre .1)
+    (subst (λ (z : ℤ). mag z < 5000000) (sym (day-is c)) (day-small (s .args .c) (c .day-after .result) (ap (λ (d : Date). inYears (d .year)) (date-is c) ∙ inside s)), s .pre .1)
 
 returns : tie.Need-returns
 returns c =

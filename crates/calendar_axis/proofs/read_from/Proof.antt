@@ -1,7 +1,7 @@
 -- `calendar_axis::read_from` meets its contract: the day that is reached, and the time of day.
-use mathlib.Core.Path.{_≡_, sym, ap, _∙_}
+use mathlib.Core.Path.{_≡_, sym, ap, _∙_, subst}
+use Prim.Native.Nat.{_<_}
 use mathlib.Core.Bool.{true}
-use native.Mathlib.Omega.{arith}
 use lib.IntN.{ℤ}
 use lib.Signed.{mag}
 use mir.Syntax.{w64}
@@ -48,8 +48,8 @@ instant-at-requires c κs =
     let d = c .before .before .before in
     let z = c .before .day .given .0 .0 in
     let f = toZ-ofZ w64 z (record { sfits = c .known-told2 .given .0 .1 }) in
-    let n = answered-small (start d .args .c) (dateAfter (start d .args .part) (start d .args .c) (start d .args .n) (start d .args .s .date)) z (sym (c .before .day .given .1) ∙ answer-is d) in
-    (omega (arith, n, ap mag f), start d .pre .1)
+    let x = dateAfter (start d .args .part) (start d .args .c) (start d .args .n) (start d .args .s .date) in
+    (subst (λ (w : ℤ). mag w < 5000000) (sym f) (answered-small (start d .args .c) x z (sym (c .before .day .given .1) ∙ answer-is d)), start d .pre .1)
 
 returns-2 : tie.Need-returns-2
 returns-2 c =

@@ -18,19 +18,19 @@ use Rattle.calendar_axis.proofs.start_of.Statement.{statement}
 use Rattle.calendar_axis.proofs.start_of.Tie as tie
 
 module _ (d : tie.After-date-of-biased-day) where
-  abbrev start : tie.Start
-  start = d .before .before
+  abbrev s : tie.Start
+  s = d .before .before
 
   abbrev date : Date
-  date = dateAt (start .args .c) (start .args .reference)
+  date = dateAt (s .args .c) (s .args .reference)
 
-  reference-is : toZ w64 (ofZ w64 (start .args .reference)) ≡ start .args .reference
-  reference-is = toZ-ofZ w64 (start .args .reference) (start .fits .reference)
+  reference-is : toZ w64 (ofZ w64 (s .args .reference)) ≡ s .args .reference
+  reference-is = toZ-ofZ w64 (s .args .reference) (s .fits .reference)
 
   answer : d .date-of-biased-day .result ≡ DateAnswer.Is date
   answer =
       d .date-of-biased-day .ensures
-      ∙ (ap (dateAnswer (start .args .c)) (d .before .day-and-time .ensures .0 ∙ ap dayOf reference-is) ∙ sym (in-range (start .args .c) (dayOf (start .args .reference)) (start .pre)))
+      ∙ (ap (dateAnswer (s .args .c)) (d .before .day-and-time .ensures .0 ∙ ap dayOf reference-is) ∙ sym (in-range (s .args .c) (dayOf (s .args .reference)) (s .pre)))
 
   found : (x : Date) → d .date-of-biased-day .result ≡ DateAnswer.Is x → x ≡ date
   found x e = let a = answer in cc
@@ -47,8 +47,7 @@ enum-known-date c = search needs
 year-of-requires : tie.Need-year-of-requires
 year-of-requires c κs =
     let d = c .before .before .before in
-    let s = start d in
-    subst (HasNumber (s .args .c)) (sym (found d (c .before .date .given .0 .0) (c .before .date .given .1))) (numbered (s .args .c) (s .args .reference) (s .pre))
+    subst (HasNumber (s d .args .c)) (sym (found d (c .before .date .given .0 .0) (c .before .date .given .1))) (numbered (s d .args .c) (s d .args .reference) (s d .pre))
 
 returns : tie.Need-returns
 returns c =
@@ -66,13 +65,4 @@ returns-2 c =
     absurd (let z : _≡_ {A = ℕ} 0 1 = cc in omega arith)
 
 pub start-of-spec : {M : Type 1} → statement M
-start-of-spec =
-    tie.close
-    (tie.spec
-    day-and-time-requires
-    date-of-biased-day-requires
-    enum-known-date
-    year-of-requires
-    returns
-    enum-told
-    returns-2)
+start-of-spec = tie.close (tie.spec day-and-time-requires date-of-biased-day-requires enum-known-date year-of-requires returns enum-told returns-2)
