@@ -15,7 +15,7 @@ use mathlib.Core.Bool.{Bool, true, false, not, false≢true}
 use Prim.Native.Nat.{ℕ, _<_}
 use native.Mathlib.Omega.{arith}
 use lib.Dec.{eqb}
-use lib.IntN.{ℤ, pos, negsuc, _+ℤ_, _*ℤ_}
+use lib.IntN.{ℤ, pos, negsuc}
 use lib.Signed.{leZ, ltZ}
 use mir.Syntax.{w64}
 use mir.Val.{SFits}
@@ -31,7 +31,7 @@ use Rattle.calendar.specs.declared.Date.{Date}
 use Rattle.calendar.specs.declared.DayAnswer.{DayAnswer}
 use Rattle.calendar.proofs.Answering.{year-out, date-there}
 use Rattle.calendar.proofs.Theorems.{dates-exist, answered, date-of-number}
-use Rattle.instant.specs.Instant.{dayOf, timeOf, inRange}
+use Rattle.instant.specs.Instant.{dayOf, timeOf, instantAt, inRange}
 use Rattle.instant.proofs.Theorems.{day-of-sum, time-of-sum, time-small, day-and-time}
 use Rattle.step.specs.Steps.{dateAfter}
 use Rattle.step.specs.Answers.{stepsBetween}
@@ -56,7 +56,7 @@ numbered c t h = record { inside = h; there = dates-exist c (dayOf t) }
 -- a date with a time of day is read where it lies in the years, and refused as past them elsewhere
 module _ (c : Calendar) (d : Date) (there : exists c d ≡ true) (s : ℕ) where
   day-read : inYears (d .year) ≡ true → (v : ℤ) × (onDay (dayAnswer c d) s ≡ Reading.At v true)
-  day-read h = (dayNumber c d *ℤ pos 86400000000 +ℤ pos s, ap (λ (a : DayAnswer). onDay a s) (sym (date-there c d (dayNumber c d) h there (date-of-number c d h there))))
+  day-read h = (instantAt (dayNumber c d) s, ap (λ (a : DayAnswer). onDay a s) (sym (date-there c d (dayNumber c d) h there (date-of-number c d h there))))
 
   day-past : inYears (d .year) ≡ false → onDay (dayAnswer c d) s ≡ Reading.Refused OutOfRange
   day-past h = ap (λ (a : DayAnswer). onDay a s) (sym (year-out c d h))
@@ -96,7 +96,7 @@ module _ (part : Part) (c : Calendar) (R : ℤ) where
     where
       go : (a : DayAnswer) → a ≡ dayAnswer c (date n) → onDay a (timeOf R) ≡ Reading.At t exact → Moved n t
       go (DayAnswer.Is z) f h =
-          let k : z *ℤ pos 86400000000 +ℤ pos (timeOf R) ≡ t = (cc) in
+          let k : instantAt z (timeOf R) ≡ t = (cc) in
           let w = answered c (date n) z f in
           let d : dateAt c t ≡ date n = ap (dateOf c) (ap dayOf (sym k) ∙ day-of-sum z (timeOf R) (time-small R)) ∙ w .is in
           record { inside = ap (λ (x : Date). inYears (x .year)) d ∙ w .inside; date-is = d; time-is = ap timeOf (sym k) ∙ time-of-sum z (timeOf R) (time-small R) }

@@ -4,14 +4,14 @@
 use mathlib.Core.Bool.{Bool, true, cond}
 use Prim.Native.Nat.{ℕ}
 use lib.Dec.{eqb}
-use lib.IntN.{ℤ, pos, _+ℤ_, _*ℤ_}
+use lib.IntN.{ℤ}
 use Rattle.refusal.specs.declared.Refusal.the-variants.{Inexact}
 use Rattle.calendar.specs.Calendar.{dateOf}
 use Rattle.calendar.specs.Answers.{dayAnswer}
 use Rattle.calendar.specs.declared.Calendar.{Calendar}
 use Rattle.calendar.specs.declared.Date.{Date}
 use Rattle.calendar.specs.declared.DayAnswer.{DayAnswer}
-use Rattle.instant.specs.Instant.{dayLength, dayOf, timeOf}
+use Rattle.instant.specs.Instant.{dayOf, timeOf, instantAt}
 use Rattle.step.specs.Steps.{dateAfter}
 use Rattle.step.specs.Answers.{stepsBetween}
 use Rattle.step.specs.declared.Part.{Part}
@@ -27,7 +27,7 @@ dateAt c t = dateOf c (dayOf t)
 
 -- a day number with a time of day, which is exact; refused as the day number is
 abbrev pub onDay : DayAnswer → ℕ → Reading
-onDay (DayAnswer.Is n) s = Reading.At (n *ℤ pos dayLength +ℤ pos s) true
+onDay (DayAnswer.Is n) s = Reading.At (instantAt n s) true
 onDay (DayAnswer.Refused r) s = Reading.Refused r
 
 -- n steps from the date x, at the time of day s

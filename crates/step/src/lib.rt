@@ -36,6 +36,7 @@ pub fn year_of(c: Calendar, x: Date) -> u64
 {
     match calendar::year_count(calendar::has_year_zero(c), signed::biased(x.year)) {
         YearCount::Is(y) => return y,
+        // no date that exists comes here
         YearCount::Missing => return 0,
     }
 }
@@ -59,7 +60,7 @@ fn months_of(part: Part) -> u64
     }
 }
 
-// The month that k - 2^63 steps lead to from month i, counted from 240000 years before the others: no step leads below that.
+// The month that k - 2^63 steps lead to from month i. It is counted from 240000 years earlier, and so many steps lead no further back.
 fn month_after(part: Part, i: u64, k: u64) -> u64
     requires { ⌜ (i < 240000) × ((9223372036854535808 ≤ k) × (k < 9223372036855015808)) ⌝ }
     ensures { λ j. ⌜ j + 240000 * monthsOf part ≡ i + 2880000 + (k - 9223372036854535808) * monthsOf part ⌝ }
