@@ -37,7 +37,7 @@ use Rattle.fixed_axis.proofs.Between as Between
 use Rattle.fixed_axis.proofs.Demands as Fixed
 use Rattle.calendar_axis.specs.Steps.{dateAt}
 use Rattle.calendar_axis.proofs.Demands as Steps
-use Rattle.axis.specs.Axis.{axisCheck, onGood, stepOn, readBy, writeBy, wholeOn, asWhole, byWhole, doubleIn, doubleOn, offsetOn, readWholeOn, readDoubleOn, writeInstantOn, writeFieldsOn}
+use Rattle.axis.specs.Axis.{axisCheck, onGood, stepOn, readBy, writeBy, wholeOn, asWhole, doubleIn, doubleOn, offsetOn, readWholeOn, readDoubleOn, writeInstantOn, writeFieldsOn}
 use Rattle.axis.specs.Demands.{WholeReading, InstantWriting}
 use Rattle.axis.specs.declared.AxisCheck.{AxisCheck}
 use Rattle.axis.specs.declared.Step.{Step}
@@ -154,8 +154,7 @@ module _ (a : Axis) (part : Part) (m : stepOn a ≡ Step.Date part) (n t : ℤ) 
   unfolding readWholeOn
   moved =
       let g = read-good (axisCheck a) (wholeOn a n) t exact h in
-      let e = sym (λ i. onGood (g i) Reading.Refused (readBy (m i) (a .calendar) (a .period) (a .reference) n)) in
-      let w = Steps.moved part (a .calendar) (a .reference) n t exact (sym (λ i. onGood (g i) Reading.Refused (readBy (sym m i) (a .calendar) (a .period) (a .reference) n)) ∙ h) in
+      let w = Steps.moved part (a .calendar) (a .reference) n t exact ((λ i. onGood (g i) Reading.Refused (readBy (sym m i) (a .calendar) (a .period) (a .reference) n)) ∙ h) in
       (w .date-is, w .time-is)
 
 -- ---- doubles

@@ -1,6 +1,6 @@
 -- From the nearest displacement of a double, as crate `double` gives it, to its reading.
-use mathlib.Core.Path.{_≡_, refl, sym, ap, _∙_, subst}
-use mathlib.Core.Bool.{Bool, true, false, cond, false≢true}
+use mathlib.Core.Path.{_≡_, refl, sym, _∙_, subst}
+use mathlib.Core.Bool.{Bool, true, false, false≢true}
 use Prim.Native.Nat.{ℕ, _≤_, _<_, _^_}
 use native.Mathlib.Omega.{arith}
 use native.Mathlib.Nat.{le-trans, le-of-eq}
@@ -20,7 +20,7 @@ use Rattle.double.specs.Nearest.{distance, nearestSize, nearestDisplacement, ne
 use Rattle.double.specs.Displacement.{DisplacementOf, IsSmall, IsLarge, IsNotFinite}
 use Rattle.double.proofs.Distance.{count-exact}
 use Rattle.double.proofs.Values.{signed-le}
-use Rattle.fixed_axis.specs.Fixed.{readingAt, markedAt, readDouble}
+use Rattle.fixed_axis.specs.Fixed.{readingAt, readDouble}
 use Rattle.fixed_axis.proofs.Readings.{Read, reading-of, inside, settled}
 use Rattle.fixed_axis.proofs.Displacements.{signed-size, inner-size, too-far}
 

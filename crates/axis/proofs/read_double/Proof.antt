@@ -1,9 +1,7 @@
 -- `axis::read_double` meets its contract: the check of the axis first.
 use mathlib.Core.Path.{_≡_, sym, ap, _∙_}
-use mir.Syntax.{w64}
-use mir.ValLaws.{toZ-ofZ}
 use Rattle.axis_types.specs.declared.Reading.{Reading}
-use Rattle.axis.specs.Axis.{axisCheck, onGood, doubleOn, readDoubleOn}
+use Rattle.axis.specs.Axis.{onGood, doubleOn, readDoubleOn}
 use Rattle.axis.specs.declared.AxisCheck.{AxisCheck}
 use Rattle.axis.proofs.Laws.{in-good}
 use borrow.Author.Needs.{needs}

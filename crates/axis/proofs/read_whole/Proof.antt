@@ -3,7 +3,7 @@ use mathlib.Core.Path.{_≡_, sym, ap, _∙_}
 use mir.Syntax.{w64}
 use mir.ValLaws.{toZ-ofZ}
 use Rattle.axis_types.specs.declared.Reading.{Reading}
-use Rattle.axis.specs.Axis.{axisCheck, onGood, wholeOn, readWholeOn}
+use Rattle.axis.specs.Axis.{onGood, wholeOn, readWholeOn}
 use Rattle.axis.specs.declared.AxisCheck.{AxisCheck}
 use Rattle.axis.proofs.Laws.{in-good}
 use borrow.Author.Needs.{needs}

@@ -1,11 +1,8 @@
 -- `axis::read_whole_on` meets its contract: by what the axis's step says.
 use mathlib.Core.Path.{_≡_, sym, ap, _∙_}
-use mathlib.Core.Bool.{true}
-use lib.IntN.{ℤ}
 use mir.Syntax.{w64}
 use mir.Val.{SFits, toZ, ofZ}
 use mir.ValLaws.{toZ-ofZ}
-use Rattle.instant.specs.Instant.{inRange}
 use Rattle.axis_types.specs.declared.Axis.{Axis}
 use Rattle.fixed_axis.specs.Fixed.{readWhole}
 use Rattle.calendar_axis.specs.Steps.{readSteps}

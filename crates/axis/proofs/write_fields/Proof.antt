@@ -6,10 +6,10 @@ use mir.ValLaws.{toZ-ofZ}
 use Rattle.instant.specs.Instant.{inRange, instantAnswer}
 use Rattle.instant.specs.declared.Fields.{Fields}
 use Rattle.instant.specs.declared.InstantAnswer.{InstantAnswer}
-use Rattle.instant.proofs.Theorems.{placed}
+use Rattle.instant.proofs.Theorems.{shown, fields-of-instant}
 use Rattle.axis_types.specs.declared.Axis.{Axis}
 use Rattle.axis_types.specs.declared.OffsetAnswer.{OffsetAnswer}
-use Rattle.axis.specs.Axis.{axisCheck, onGood, offsetOn, ofInstant, writeFieldsOn}
+use Rattle.axis.specs.Axis.{onGood, offsetOn, ofInstant, writeFieldsOn}
 use Rattle.axis.specs.declared.AxisCheck.{AxisCheck}
 use Rattle.axis.proofs.Laws.{in-good}
 use borrow.Author.Needs.{needs}
@@ -58,7 +58,16 @@ enum-known-t : tie.Need-enum-known-t
 enum-known-t c = search needs
 
 write-on-requires : tie.Need-write-on-requires
-write-on-requires c κs = ?w
+write-on-requires c κs =
+    let n = c .before in
+    let i = n .before .before in
+    let k = i .before .before .before in
+    let z = n .t .given .0 .0 in
+    (
+      in-good (axis k) (sym (i .before .enum-told .given .1) ∙ k .check-axis .ensures),
+      ap (inRange (axis k .calendar)) (toZ-ofZ w64 z (record { sfits = c .known-told3 .given .0 .1 }))
+      ∙ shown (axis k .calendar) z (fields k) (fields-of-instant (axis k .calendar) (fields k) z (sym (i .instant-of .ensures) ∙ n .t .given .1)) .inside,
+    )
 
 returns-3 : tie.Need-returns-3
 returns-3 c =

@@ -9,7 +9,7 @@ use Rattle.refusal.specs.declared.Refusal.the-variants.{OutOfRange}
 use Rattle.instant.specs.Instant.{inRange}
 use Rattle.axis_types.specs.declared.Axis.{Axis}
 use Rattle.axis_types.specs.declared.OffsetAnswer.{OffsetAnswer}
-use Rattle.axis.specs.Axis.{axisCheck, onGood, offsetOn, writeInstantOn}
+use Rattle.axis.specs.Axis.{onGood, offsetOn, writeInstantOn}
 use Rattle.axis.specs.declared.AxisCheck.{AxisCheck}
 use Rattle.axis.proofs.Laws.{in-good}
 use borrow.Author.Needs.{needs}

@@ -1,5 +1,5 @@
 -- `fixed_axis::read_double` meets its contract. proofs/Doubles.antt goes from the displacement to the definition.
-use mathlib.Core.Path.{_≡_, sym, ap, _∙_, subst}
+use mathlib.Core.Path.{_≡_, ap, _∙_, subst}
 use Prim.Native.Nat.{ℕ, _<_, _^_}
 use native.Mathlib.Omega.{arith}
 use lib.IntN.{ℤ}
