@@ -1,10 +1,10 @@
 -- The lengths of periods, and how many of them lead out of the range: L periods of P microseconds are 2^60 microseconds or more, and less than 2^61.
-use mathlib.Core.Path.{_≡_, refl, sym, ap, _∙_, subst}
+use mathlib.Core.Path.{_≡_, refl, sym, ap, _∙_}
 use mathlib.Core.Bool.{Bool, true, false}
-use Prim.Native.Nat.{ℕ, suc, _+_, _-_, _*_, _^_, _≤_, _<_}
+use Prim.Native.Nat.{ℕ, _+_, _-_, _*_, _^_, _≤_, _<_}
 use native.Mathlib.Decide.{decLt}
 use native.Mathlib.Omega.{arith}
-use native.Mathlib.Nat.{le-trans, mul-comm, mul-assoc, mul-left-comm, mul-le-mul-left, mul-le-mul-right}
+use native.Mathlib.Nat.{mul-comm, mul-assoc, mul-left-comm, mul-le-mul-left, mul-le-mul-right}
 use lib.Dec.{ltb, lit≤, lit<}
 use lib.IntN.{ℤ, natAbs}
 use lib.Pow.{pow-add, pow-mono}

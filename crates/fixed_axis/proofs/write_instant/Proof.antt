@@ -1,7 +1,7 @@
 -- `fixed_axis::write_instant` meets its contract. proofs/Writing.antt has the quotient.
 use mathlib.Core.Path.{_≡_, sym, ap, _∙_}
 use mathlib.Core.Bool.{Bool, cond}
-use Prim.Native.Nat.{ℕ, _+_, _-_, _/_, _%_, _≤_}
+use Prim.Native.Nat.{ℕ, _-_, _/_, _%_, _≤_}
 use native.Mathlib.Omega.{arith}
 use lib.Dec.{eqb, ltb}
 use lib.IntN.{ℤ, _-ℤ_}
@@ -10,9 +10,7 @@ use mir.ValLaws.{toZ-ofZ}
 use borrow.Author.Needs.{needs}
 use borrow.Author.Tests.{eq-eqb, ne-eqb}
 use Rattle.refusal.specs.declared.Refusal.the-variants.{Inexact}
-use Rattle.signed.specs.Bias.{lower}
 use Rattle.signed.proofs.Machine.{crossed}
-use Rattle.axis_types.specs.Lengths.{lengthOf}
 use Rattle.axis_types.specs.declared.OffsetAnswer.{OffsetAnswer}
 use Rattle.double.specs.Nearest.{withSign}
 use Rattle.fixed_axis.specs.Fixed.{inPeriods, writeInstant}
