@@ -1,6 +1,6 @@
 -- The answers, from tests on a day number that is raised by 2^63.
 use mathlib.Core.Path.{_≡_, sym, ap, _∙_}
-use mathlib.Core.Bool.{Bool, true, false, _&&_}
+use mathlib.Core.Bool.{Bool, true, false, _&&_, cond}
 use Prim.Native.Nat.{ℕ, _+_, _-_, _<_, _≤_}
 use native.Mathlib.Omega.{arith}
 use lib.Dec.{leb, ltb}
@@ -12,7 +12,7 @@ use Rattle.signed.specs.Bias.{lower}
 use Rattle.signed.proofs.Tests.{test-is, and-parts, left-out}
 use Rattle.signed.proofs.Differences.{sub-le, same-diff}
 use Rattle.calendar.specs.Calendar.{dateOf, inYears, exists}
-use Rattle.calendar.specs.Answers.{pickDateAnswer, dateAnswer, dayAnswer}
+use Rattle.calendar.specs.Answers.{dateAnswer, dayAnswer}
 use Rattle.calendar.specs.Closed.{epochDay, firstDay, endDay}
 use Rattle.calendar.specs.declared.Calendar.{Calendar}
 use Rattle.calendar.specs.declared.Date.{Date}
@@ -24,11 +24,11 @@ use Rattle.calendar.proofs.Numbering.{number-is}
 module _ (c : Calendar) where
   pub out-of-range : (z : ℤ) → inYears (dateOf c z .year) ≡ false → DateAnswer.Refused OutOfRange ≡ dateAnswer c z
   unfolding dateAnswer
-  out-of-range z h = ap (λ (t : Bool). pickDateAnswer t (DateAnswer.Is (dateOf c z)) (DateAnswer.Refused OutOfRange)) (sym h)
+  out-of-range z h = ap (λ (t : Bool). cond t (DateAnswer.Is (dateOf c z)) (DateAnswer.Refused OutOfRange)) (sym h)
 
   pub in-range : (z : ℤ) → inYears (dateOf c z .year) ≡ true → DateAnswer.Is (dateOf c z) ≡ dateAnswer c z
   unfolding dateAnswer
-  in-range z h = ap (λ (t : Bool). pickDateAnswer t (DateAnswer.Is (dateOf c z)) (DateAnswer.Refused OutOfRange)) (sym h)
+  in-range z h = ap (λ (t : Bool). cond t (DateAnswer.Is (dateOf c z)) (DateAnswer.Refused OutOfRange)) (sym h)
 
   -- the range of a raised day number
   range-biased : (k : ℕ) → inYears (dateOf c (lower k) .year) ≡ (leb (firstDay c + (9223372036854775808 - epochDay c)) k && leb k (endDay c - 1 + (9223372036854775808 - epochDay c)))

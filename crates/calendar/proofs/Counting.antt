@@ -1,220 +1,211 @@
--- From a date to its day: the day that the rule counts is the day of the calendar.
+-- From a date to its day: the tests and the counts of the code.
 use mathlib.Core.Path.{_≡_, refl, sym, ap, _∙_, subst}
-use mathlib.Core.Bool.{Bool, true, false, not, _&&_, cond}
+use mathlib.Core.Bool.{Bool, true, false, not, _&&_, _||_, cond, or-false, true≢false}
 use Prim.Native.Nat.{ℕ, suc, _+_, _-_, _*_, _<_, _≤_}
 use native.Mathlib.Omega.{arith}
 use native.Mathlib.Decide.{decLe}
 use lib.Dec.{leb, ltb, eqb}
-use lib.IntN.{pos, subℕ}
-use borrow.Author.Tests.{eqb-true, eqb-false, leb-true, leb-false, ltb-true, ltb-false, lt-ltb, le-leb}
-use Rattle.signed.proofs.Tests.{to-false}
-use Rattle.calendar.specs.Calendar.{monthDays, kind, isStandard, hasYearZero, lastDay, date, dateOf, dropped, exists}
-use Rattle.calendar.specs.Closed.{row, yearStart, monthStart, place, count, Proper, Labelled, yearAt, label, epochDay, late, pickRule, ruleAt, lagAt, dayAt}
+use lib.IntN.{subℕ}
+use borrow.Author.Tests.{le-leb, leb-true, leb-false, lt-ltb, le-ltb, eqb-true, eq-eqb, ne-eqb, not-true, not-false}
+use Rattle.signed.proofs.Tests.{and-parts, to-false, test-is}
+use Rattle.calendar.specs.Plain.{Plain, monthDays, date, hasDay}
+use Rattle.calendar.specs.Calendar.{CalendarRow, earlyPart, latePart, existsBy, dateBy, exists, dateOf, hasYearZero, rowOf}
+use Rattle.calendar.specs.Closed.{kindAt, count, Proper, yearAt, label, hasDayAt, dayPlace, beforePlace, countedRow, counts, mixed, cutoverDay, lateFrom, lag, isEarly, isDropped, ruleAt, lagAt, rowEpoch, epochDay}
+use Rattle.calendar.specs.Order.{sameYear, earlier}
 use Rattle.calendar.specs.declared.Calendar.{Calendar}
-use Rattle.calendar.specs.declared.Calendar.the-variants.{Standard, ProlepticGregorian, Julian, NoLeap, AllLeap, Day360}
+use Rattle.calendar.specs.declared.Date.{Date}
+use Rattle.calendar.specs.declared.place.Place.{Place}
+use Rattle.calendar.specs.declared.row.CountedRow.{CountedRow}
 use Rattle.calendar.specs.declared.rule.Rule.{Rule}
-use Rattle.calendar.specs.declared.rule.Rule.the-variants.{Gregorian, FourYearly, Common, Leap, Thirty}
-use Rattle.calendar.proofs.Years.{year-most}
-use Rattle.calendar.proofs.Places.{bracket, month-grows, month-end, in-row, grows-to, year-grows}
-use Rattle.calendar.proofs.Existing.{date-eq, Valid, Dropped, dropped-of, valid-day}
-use Rattle.calendar.proofs.Labels.{year-back, year-there}
-use Rattle.calendar.proofs.Plain.{Ruled, dated, proleptic, julian, noleap, allleap, thirty}
-use Rattle.calendar.proofs.Mixed.{kind-early, kind-late, dated-early, dated-late}
+use Rattle.calendar.proofs.Years.{year-most, kind-low}
+use Rattle.calendar.proofs.Tables.{month-days, month-room}
+use Rattle.calendar.proofs.Ordered.{date-eq, Before, earlier-of, clash, year-eq, same-year, not-after}
+use Rattle.calendar.proofs.Labels.{kinds, there-at, name-lt}
+use Rattle.calendar.proofs.Days.{Cutover, dayDate, place-date, meeting, first-count, date-early, row-dates, dated-late, early-number, late-number}
+use Rattle.calendar.proofs.Rows.{cutover}
 
--- ---- which side of the cutover
+-- ---- a date of a rule, by the count of its year
 
-pub late-year : (y d : ℕ) → late y d ≡ true → 11582 ≤ y
-late-year y d = go (eqb y 11582) refl
-  where
-    go : (t : Bool) → eqb y 11582 ≡ t → cond t (leb 277 d) (ltb 11582 y) ≡ true → 11582 ≤ y
-    go true e h = omega (arith, eqb-true y 11582 e)
-    go false e h = omega (arith, ltb-true 11582 y h)
+pub record Parts (r : Rule) (y m d : ℕ) : Type 0 where
+  pub month-low : 1 ≤ m
+  pub month-high : m ≤ 12
+  pub day-low : 1 ≤ d
+  pub day-high : d ≤ monthDays (kindAt r y) (m - 1)
 
-early-year : (y d : ℕ) → late y d ≡ false → y ≤ 11582
-early-year y d = go (eqb y 11582) refl
-  where
-    go : (t : Bool) → eqb y 11582 ≡ t → cond t (leb 277 d) (ltb 11582 y) ≡ false → y ≤ 11582
-    go true e h = omega (arith, eqb-true y 11582 e)
-    go false e h = omega (arith, ltb-false 11582 y h)
+module _ (r : Rule) (y m d : ℕ) where
+  pub parts-of : hasDayAt r y m d ≡ true → Parts r y m d
+  unfolding hasDayAt
+  parts-of h =
+      let l = monthDays (kindAt r y) (m - 1) in
+      let q = and-parts (leb 1 m && leb m 12) (leb 1 d && leb d l) h in
+      let a = and-parts (leb 1 m) (leb m 12) (q .0) in
+      let b = and-parts (leb 1 d) (leb d l) (q .1) in
+      record { month-low = leb-true 1 m (a .0); month-high = leb-true m 12 (a .1); day-low = leb-true 1 d (b .0); day-high = leb-true d l (b .1) }
 
-early-day : (y d : ℕ) → late y d ≡ false → y ≡ 11582 → d < 277
-early-day y d = go (eqb y 11582) refl
-  where
-    go : (t : Bool) → eqb y 11582 ≡ t → cond t (leb 277 d) (ltb 11582 y) ≡ false → y ≡ 11582 → d < 277
-    go true e h g = leb-false 277 d h
-    go false e h g = absurd (eqb-false y 11582 e g)
+  pub not-at : (Parts r y m d → ⊥) → hasDayAt r y m d ≡ false
+  not-at f = to-false (hasDayAt r y m d) (λ h. f (parts-of h))
 
-late-day : (y d : ℕ) → late y d ≡ true → y ≡ 11582 → 277 ≤ d
-late-day y d = go (eqb y 11582) refl
-  where
-    go : (t : Bool) → eqb y 11582 ≡ t → cond t (leb 277 d) (ltb 11582 y) ≡ true → y ≡ 11582 → 277 ≤ d
-    go true e h g = leb-true 277 d h
-    go false e h g = absurd (eqb-false y 11582 e g)
+  pub day-test : 1 ≤ m → m ≤ 12 → 1 ≤ d → hasDayAt r y m d ≡ leb d (monthDays (kindAt r y) (m - 1))
+  unfolding hasDayAt
+  day-test a b e = rw (le-leb 1 m a, le-leb m 12 b, le-leb 1 d e)
 
--- ---- the kind of a year, by the rule of any of its days
+  module _ (h : hasDayAt r y m d ≡ true) where
+    proper-at : Proper r (dayPlace y m d)
+    proper-at = let p = parts-of h in record { month = omega (arith, p .month-low, p .month-high); day = omega (arith, p .day-low, p .day-high) }
 
-kind-standard : (y d : ℕ) (t : Bool) → late y d ≡ t → kind Standard (yearAt false y) ≡ row (pickRule t Gregorian FourYearly) y
-kind-standard y d true h = kind-late y (late-year y d h)
-kind-standard y d false h = kind-early y (early-year y d h)
+    pub count-small : (d ≤ 31) × (count r (dayPlace y m d) ≤ 366 * y + 500)
+    unfolding count
+    count-small =
+        let p = parts-of h in
+        let w = month-days (kindAt r y) (m - 1) (kind-low r y) (omega (arith, p .month-low, p .month-high)) in
+        omega (arith, year-most r y, month-room (kindAt r y) (m - 1) (kind-low r y) (omega (arith, p .month-high)), p .month-high, p .day-high)
 
-pub kind-at : (c : Calendar) (y d : ℕ) → kind c (yearAt (hasYearZero c) y) ≡ row (ruleAt c y d) y
-kind-at Standard y d = kind-standard y d (late y d) refl
-kind-at ProlepticGregorian y d = proleptic .kinds y
-kind-at Julian y d = julian .kinds y
-kind-at NoLeap y d = noleap .kinds y
-kind-at AllLeap y d = allleap .kinds y
-kind-at Day360 y d = thirty .kinds y
+module _ (p : Plain) (y m d : ℕ) where
+  exists-at : hasDay p (date (yearAt (p .zero) y) m d) ≡ hasDayAt (p .rule) y m d
+  unfolding hasDay hasDayAt
+  exists-at =
+      let a = (leb 1 m && leb m 12) && (leb 1 d && leb d (monthDays (kindAt (p .rule) y) (m - 1))) in
+      (λ i. ((leb 1 m && leb m 12) && (leb 1 d && leb d (monthDays (kinds p y i) (m - 1)))) && not (there-at (p .zero) y i)) ∙ and-true a
+    where
+      and-true : (b : Bool) → (b && true) ≡ b
+      and-true true = refl
+      and-true false = refl
 
--- ---- the day
+  date-at : hasDayAt (p .rule) y m d ≡ true → dayDate p (count (p .rule) (dayPlace y m d)) ≡ date (yearAt (p .zero) y) m d
+  date-at h =
+      let v = parts-of (p .rule) y m d h in
+      place-date p (dayPlace y m d) (proper-at (p .rule) y m d h) ∙ date-eq refl (omega (arith, v .month-low)) (omega (arith, v .day-low))
 
--- days 277 to 286 of 1582 are those dropped in October
-october : monthStart 0 9 ≡ 273
-unfolding monthStart monthDays
-october = refl
+-- ---- which part of its calendar a date belongs to
 
-november : monthStart 0 10 ≡ 304
-unfolding monthStart monthDays
-november = refl
-
-in-october : (m i : ℕ) → i < monthDays 0 m → 277 ≤ monthStart 0 m + i → monthStart 0 m + i < 287 → (m ≡ 9) × ((4 ≤ i) × (i < 14))
-in-october m i g a b =
-    let e : m ≡ 9 = bracket (monthStart 0) (month-grows 0) (monthStart 0 m + i) m 9 (omega arith) (omega (arith, month-end 0 m)) (omega (arith, october)) (omega (arith, november)) in
-    (e, omega (arith, ap (monthStart 0) e, october))
-
--- a date of year y, month m and day d that exists by a rule, and its day o of the year
-record Written (c : Calendar) (r : Rule) (y m d o : ℕ) : Type 0 where
-  valid : Valid c (date (yearAt (hasYearZero c) y) m d)
-  proper : Proper r (place y (m - 1) (d - 1))
-  counted : count r (place y (m - 1) (d - 1)) ≡ yearStart r y + o
-  ordinal : o ≡ monthStart (row r y) (m - 1) + (d - 1)
-
-module _ (c : Calendar) (r : Rule) (y m d o : ℕ) (w : Written c r y m d o) where
-  labelled : Labelled (hasYearZero c) r (yearStart r y + o) (date (yearAt (hasYearZero c) y) m d)
-  labelled =
-      record {
-        at = place y (m - 1) (d - 1);
-        split = record { proper = w .proper; counted = w .counted };
-        is = date-eq refl (omega (arith, w .valid .month-low)) (omega (arith, w .valid .day-low));
-      }
-
-  plain : Ruled c r → dateOf c (subℕ (yearStart r y + o + 0) (epochDay c)) ≡ date (yearAt (hasYearZero c) y) m d
-  plain h =
-      let e : yearStart r y + o + 0 ≡ yearStart r y + o = omega arith in
-      ap (λ (k : ℕ). dateOf c (subℕ k (epochDay c))) e ∙ sym (dated c r h (yearStart r y + o) (date (yearAt (hasYearZero c) y) m d) labelled)
-
--- ---- `standard`, before and after the cutover
-
-early-1582 : yearStart FourYearly 11582 ≡ 4230326
-unfolding yearStart
-early-1582 = refl
-
-late-1582 : yearStart Gregorian 11582 ≡ 4230239
-unfolding yearStart
-late-1582 = refl
-
-late-1583 : yearStart Gregorian 11583 ≡ 4230604
-unfolding yearStart
-late-1583 = refl
-
-common-1582 : (y : ℕ) → y ≡ 11582 → row Gregorian y ≡ 0
-unfolding row
-common-1582 y e = subst (λ (n : ℕ). row Gregorian n ≡ 0) (sym e) refl
-
-name-1582 : (y : ℕ) → y ≡ 11582 → yearAt false y ≡ pos 1582
-name-1582 y e = subst (λ (n : ℕ). yearAt false n ≡ pos 1582) (sym e) refl
-
-before : (y m d o : ℕ) → Written Standard FourYearly y m d o → late y o ≡ false → yearStart FourYearly y + o < 4230603
-before y m d o w h =
-    elim (decLe 11582 y) [
-      | yes g ↦
-          let e : y ≡ 11582 = omega (arith, early-year y o h) in
-          omega (arith, early-day y o h e, ap (yearStart FourYearly) e, early-1582)
-      | no g ↦ omega (arith, w .counted, in-row FourYearly (place y (m - 1) (d - 1)) (w .proper) .1, grows-to (yearStart FourYearly) (year-grows FourYearly) (suc y) 11582 (omega arith), early-1582)
+-- years that have one name are one
+name-one : (z : Bool) (a b : ℕ) → yearAt z a ≡ yearAt z b → a ≡ b
+name-one z a b e =
+    elim (decLe (suc a) b) [
+      | yes h ↦ absurd (clash (yearAt z a) (yearAt z b) (name-lt z a b ∙ lt-ltb a b h) e)
+      | no h ↦ elim (decLe (suc b) a) [
+        | yes g ↦ absurd (clash (yearAt z b) (yearAt z a) (name-lt z b a ∙ lt-ltb b a g) (sym e))
+        | no g ↦ omega arith
+      ]
     ]
 
--- no date that exists lies on days 277 to 286 of 1582
-past-gap : (y m d o : ℕ) → Written Standard Gregorian y m d o → y ≡ 11582 → 277 ≤ o → 287 ≤ o
-past-gap y m d o w e h =
-    elim (decLe 287 o) [
-      | yes g ↦ g
-      | no g ↦
-          let k = common-1582 y e in
-          let s : o ≡ monthStart 0 (m - 1) + (d - 1) = w .ordinal ∙ ap (λ (j : ℕ). monthStart j (m - 1) + (d - 1)) k in
-          let q = in-october (m - 1) (d - 1) (subst (λ (j : ℕ). d - 1 < monthDays j (m - 1)) k (w .proper .day)) (omega arith) (omega arith) in
-          let gone : Dropped (date (yearAt false y) m d) = record { year = name-1582 y e; month = omega (arith, q .0, w .valid .month-low); after = omega (arith, q .1); before = omega (arith, q .1) } in
-          absurd (valid-day Standard (date (yearAt false y) m d) (w .valid) refl gone)
-    ]
+name-same : (z : Bool) (a b : ℕ) → sameYear (yearAt z a) (yearAt z b) ≡ eqb a b
+name-same z a b =
+    test-is (sameYear (yearAt z a) (yearAt z b)) (eqb a b)
+    (λ e. eq-eqb a b (name-one z a b (year-eq (yearAt z a) (yearAt z b) e)))
+    (λ e. to-false (eqb a b) (λ g. true≢false (sym (same-year (yearAt z b)) ∙ (ap (λ (n : ℕ). sameYear (yearAt z n) (yearAt z b)) (sym (eqb-true a b g)) ∙ e))))
 
-after : (y m d o : ℕ) → Written Standard Gregorian y m d o → late y o ≡ true → 4230526 ≤ yearStart Gregorian y + o
-after y m d o w h =
-    elim (decLe 11583 y) [
-      | yes g ↦ omega (arith, grows-to (yearStart Gregorian) (year-grows Gregorian) 11583 y g, late-1583)
-      | no g ↦
-          let e : y ≡ 11582 = omega (arith, late-year y o h) in
-          omega (arith, past-gap y m d o w e (late-day y o h e), ap (yearStart Gregorian) e, late-1582)
-    ]
+before-place : (z : Bool) (y m d : ℕ) (p : Place) → earlier (date (yearAt z y) m d) (label z p) ≡ beforePlace y m d p
+unfolding earlier beforePlace
+before-place z y m d p = λ i. name-lt z y (p .y) i || (name-same z y (p .y) i && (ltb m (p .m + 1) || (eqb m (p .m + 1) && ltb d (p .i + 1))))
 
-standard : (y m d o : ℕ) (t : Bool) → late y o ≡ t → Written Standard (pickRule t Gregorian FourYearly) y m d o
-    → dateOf Standard (subℕ (yearStart (pickRule t Gregorian FourYearly) y + o + cond t 77 0) 4372030) ≡ date (yearAt false y) m d
-standard y m d o true h w =
-    let n = yearStart Gregorian y + o + 77 in
-    let e : yearStart Gregorian y + o ≡ n - 77 = omega arith in
-    sym (dated-late n (date (yearAt false y) m d) (omega (arith, after y m d o w h)) (subst (λ (k : ℕ). Labelled false Gregorian k (date (yearAt false y) m d)) e (labelled Standard Gregorian y m d o w)))
-standard y m d o false h w =
-    let e : yearStart FourYearly y + o + 0 ≡ yearStart FourYearly y + o = omega arith in
-    ap (λ (k : ℕ). dateOf Standard (subℕ k 4372030)) e
-    ∙ sym (dated-early (yearStart FourYearly y + o) (date (yearAt false y) m d) (before y m d o w h) (labelled Standard FourYearly y m d o w))
+-- the test, field by field
+module _ (y m d : ℕ) (p : Place) where
+  pub by-other-year : (y ≡ p .y → ⊥) → ltb y (p .y) ≡ beforePlace y m d p
+  unfolding beforePlace
+  by-other-year h = rw (ne-eqb y (p .y) h) (sym (or-false (ltb y (p .y))))
 
--- ---- the day of a date that exists is the day whose date it is
+  module _ (e : y ≡ p .y) where
+    same-one : beforePlace y m d p ≡ (ltb m (p .m + 1) || (eqb m (p .m + 1) && ltb d (p .i + 1)))
+    unfolding beforePlace
+    same-one = rw (le-ltb y (p .y) (omega arith), eq-eqb y (p .y) e)
 
-written : (y m d o : ℕ) (c : Calendar) → Valid c (date (yearAt (hasYearZero c) y) m d) → o ≡ monthStart (kind c (yearAt (hasYearZero c) y)) (m - 1) + (d - 1) → Written c (ruleAt c y o) y m d o
-unfolding count
-written y m d o c v e =
-    let k = kind-at c y o in
-    let s : o ≡ monthStart (row (ruleAt c y o) y) (m - 1) + (d - 1) = e ∙ ap (λ (j : ℕ). monthStart j (m - 1) + (d - 1)) k in
-    record {
-      valid = v;
-      proper = record { month = omega (arith, v .month-low, v .month-high); day = subst (λ (j : ℕ). d - 1 < monthDays j (m - 1)) k (omega (arith, v .day-low, v .day-high)) };
-      counted = omega arith;
-      ordinal = s;
-    }
+    pub by-month-before : m ≤ p .m → true ≡ beforePlace y m d p
+    by-month-before h = sym (same-one ∙ rw (lt-ltb m (p .m + 1) (omega arith)))
 
-pub numbered : (c : Calendar) (y m d o : ℕ) → Valid c (date (yearAt (hasYearZero c) y) m d) → o ≡ monthStart (kind c (yearAt (hasYearZero c) y)) (m - 1) + (d - 1) → dateOf c (subℕ (dayAt c y o) (epochDay c)) ≡ date (yearAt (hasYearZero c) y) m d
-numbered c y m d o v e = go c (written y m d o c v e)
-  where
-    go : (c : Calendar) → Written c (ruleAt c y o) y m d o → dateOf c (subℕ (dayAt c y o) (epochDay c)) ≡ date (yearAt (hasYearZero c) y) m d
-    go Standard w = standard y m d o (late y o) refl w
-    go ProlepticGregorian w = plain ProlepticGregorian Gregorian y m d o w proleptic
-    go Julian w = plain Julian FourYearly y m d o w julian
-    go NoLeap w = plain NoLeap Common y m d o w noleap
-    go AllLeap w = plain AllLeap Leap y m d o w allleap
-    go Day360 w = plain Day360 Thirty y m d o w thirty
+    pub by-month-after : p .m < m - 1 → false ≡ beforePlace y m d p
+    by-month-after h = sym (same-one ∙ rw (le-ltb m (p .m + 1) (omega arith), ne-eqb m (p .m + 1) (λ f. omega arith)))
 
--- ---- the tests of a date, by the count of its year
+    pub by-day-test : p .m < m → m - 1 ≤ p .m → leb d (p .i) ≡ beforePlace y m d p
+    by-day-test h g =
+        let same : leb d (p .i) ≡ ltb d (p .i + 1) = test-is (leb d (p .i)) (ltb d (p .i + 1)) (λ f. lt-ltb d (p .i + 1) (omega (arith, leb-true d (p .i) f))) (λ f. le-ltb d (p .i + 1) (omega (arith, leb-false d (p .i) f))) in
+        same ∙ sym (same-one ∙ rw (le-ltb m (p .m + 1) (omega arith), eq-eqb m (p .m + 1) (omega arith)))
 
-pub dropped-not : (z : Bool) (y m d : ℕ) → (y ≡ 11582 → m ≡ 10 → 4 < d → d < 15 → ⊥) → dropped (date (yearAt z y) m d) ≡ false
-dropped-not z y m d f =
-    to-false (dropped (date (yearAt z y) m d)) (λ h.
-    let g = dropped-of (date (yearAt z y) m d) h in
-    f (year-back z 1582 y (omega arith) (g .year)) (g .month) (g .after) (g .before))
+module _ (r : CalendarRow) (h : Cutover r) (y m d : ℕ) where
+  abbrev x : Date
+  x = date (yearAt (r .zero) y) m d
 
-name-at : (z : Bool) → yearAt z 11582 ≡ pos 1582
-name-at true = refl
-name-at false = refl
+  abbrev k : CountedRow
+  k = countedRow r
 
-pub dropped-is : (z : Bool) (y m d : ℕ) → y ≡ 11582 → m ≡ 10 → 4 < d → dropped (date (yearAt z y) m d) ≡ ltb d 15
-dropped-is z y m d e f h = rw (ap (yearAt z) e ∙ name-at z, f, lt-ltb 4 d h)
+  before-first : earlier x (r .first) ≡ beforePlace y m d (k .from)
+  before-first = ap (earlier x) (sym (h .first-at)) ∙ before-place (r .zero) y m d (k .from)
 
-pub exists-is : (c : Calendar) (y m d : ℕ) → 1 ≤ m → m ≤ 12 → 1 ≤ d → d ≤ lastDay c (yearAt (hasYearZero c) y) m → exists c (date (yearAt (hasYearZero c) y) m d) ≡ not (isStandard c && dropped (date (yearAt (hasYearZero c) y) m d))
-unfolding exists
-exists-is c y m d a b e f = rw (le-leb 1 m a, le-leb m 12 b, le-leb 1 d e, le-leb d (lastDay c (yearAt (hasYearZero c) y) m) f, year-there c y)
+  not-after-last : not (earlier (r .last) x) ≡ beforePlace y m d (k .until)
+  not-after-last =
+      let e : date (r .last .year) (r .last .month) (r .last .day + 1) ≡ label (r .zero) (k .until) = date-eq (sym (ap (λ (w : Date). w .year) (h .last-at))) (sym (ap (λ (w : Date). w .month) (h .last-at))) refl in
+      not-after (r .last .year) (r .last .month) (r .last .day) x ∙ (ap (earlier x) e ∙ before-place (r .zero) y m d (k .until))
 
-pub lag-small : (c : Calendar) (y d : ℕ) → lagAt c y d ≤ 77
-lag-small c y d = go (isStandard c && late y d)
-  where
-    go : (t : Bool) → cond t 77 0 ≤ 77
-    go true = omega arith
-    go false = omega arith
+  -- with one rule on both sides of one place, a date need not be early
+  pub exists-is : existsBy r x ≡ (not (isDropped k y m d) && hasDayAt (ruleAt k y m d) y m d)
+  unfolding existsBy
+  exists-is =
+      (λ i. cond (before-first i) (exists-at (earlyPart r) y m d i && not-after-last i) (exists-at (latePart r) y m d i))
+      ∙ go (mixed k) (beforePlace y m d (k .from)) (beforePlace y m d (k .until)) (hasDayAt (r .early) y m d) refl refl refl refl
+    where
+      same : mixed k ≡ false → hasDayAt (r .late) y m d ≡ hasDayAt (r .early) y m d
+      same p = ap (λ (c : Rule). hasDayAt c y m d) (sym (h .alone p))
 
-pub day-small : (c : Calendar) (y d : ℕ) → dayAt c y d ≤ 366 * y + d + 100
-day-small c y d = omega (arith, year-most (ruleAt c y d) y, lag-small c y d)
+      go : (s a b t : Bool) → mixed k ≡ s → beforePlace y m d (k .from) ≡ a → beforePlace y m d (k .until) ≡ b → hasDayAt (r .early) y m d ≡ t
+          → cond a (t && b) (hasDayAt (r .late) y m d) ≡ (not ((s && a) && not b) && hasDayAt (cond (s && a) (r .early) (r .late)) y m d)
+      go true true true true p q f g = sym g
+      go true true true false p q f g = sym g
+      go true true false true p q f g = refl
+      go true true false false p q f g = refl
+      go true false b t p q f g = refl
+      go false true true true p q f g = sym (same p ∙ g)
+      go false true true false p q f g = sym (same p ∙ g)
+      go false true false t p q f g = absurd (true≢false (sym q ∙ (ap (beforePlace y m d) (sym (meeting r p)) ∙ f)))
+      go false false b t p q f g = refl
+
+  -- the day of a date that exists
+  pub day-is : existsBy r x ≡ true → dateBy r (subℕ (count (ruleAt k y m d) (dayPlace y m d)) (rowEpoch k + lagAt k y m d)) ≡ x
+  unfolding rowEpoch
+  day-is e =
+      let w = and-parts (not (isDropped k y m d)) (hasDayAt (ruleAt k y m d) y m d) (sym exists-is ∙ e) in
+      go (mixed k) (beforePlace y m d (k .from)) refl refl (w .0) (w .1)
+    where
+      late : hasDayAt (r .late) y m d ≡ true → lateFrom k ≤ count (r .late) (dayPlace y m d) → dateBy r (subℕ (count (r .late) (dayPlace y m d)) (rowEpoch k + 0)) ≡ x
+      late g l =
+          let n = count (r .late) (dayPlace y m d) in
+          ap (λ (j : ℕ). dateBy r (subℕ n j)) (omega arith) ∙ (dated-late r h n l ∙ date-at (latePart r) y m d g)
+
+      go : (s a : Bool) → mixed k ≡ s → beforePlace y m d (k .from) ≡ a → not ((s && a) && not (beforePlace y m d (k .until))) ≡ true → hasDayAt (cond (s && a) (r .early) (r .late)) y m d ≡ true
+          → dateBy r (subℕ (count (cond (s && a) (r .early) (r .late)) (dayPlace y m d)) (rowEpoch k + cond (s && a) (lag k) 0)) ≡ x
+      go true true p q f g =
+          let n = count (r .early) (dayPlace y m d) in
+          let is : dayDate (earlyPart r) n ≡ x = date-at (earlyPart r) y m d g in
+          let kept : not (earlier (r .last) x) ≡ true = not-after-last ∙ not-false (beforePlace y m d (k .until)) (not-true (not (beforePlace y m d (k .until))) f) in
+          let low = early-number r h n (λ b. true≢false (sym (earlier-of (r .last) x (subst (Before (r .last)) is b)) ∙ not-true (earlier (r .last) x) kept)) in
+          row-dates r h n ∙ (date-early r h n low ∙ is)
+      go true false p q f g =
+          let n = count (r .late) (dayPlace y m d) in
+          let is : dayDate (latePart r) n ≡ x = date-at (latePart r) y m d g in
+          let low = late-number r h n (λ b. true≢false (sym (earlier-of x (r .first) (subst (λ (w : Date). Before w (r .first)) is b)) ∙ (before-first ∙ q))) in
+          let from : lateFrom k ≡ cutoverDay k = ap (λ (t : Bool). cond t (cutoverDay k) 0) p in
+          late g (omega (arith, first-count r h))
+      go false a p q f g =
+          let from : lateFrom k ≡ 0 = ap (λ (t : Bool). cond t (cutoverDay k) 0) p in
+          late g (omega arith)
+
+-- ---- the calendars
+
+module _ (c : Calendar) (y m d : ℕ) where
+  pub exists-by : exists c (date (yearAt (hasYearZero c) y) m d) ≡ (not (isDropped (counts c) y m d) && hasDayAt (ruleAt (counts c) y m d) y m d)
+  unfolding exists
+  exists-by = exists-is (rowOf c) (cutover c) y m d
+
+  pub numbered : exists c (date (yearAt (hasYearZero c) y) m d) ≡ true → dateOf c (subℕ (count (ruleAt (counts c) y m d) (dayPlace y m d)) (epochDay c + lagAt (counts c) y m d)) ≡ date (yearAt (hasYearZero c) y) m d
+  unfolding exists dateOf
+  numbered = day-is (rowOf c) (cutover c) y m d
+
+  -- the rule of a date that exists has it
+  pub has-by : exists c (date (yearAt (hasYearZero c) y) m d) ≡ true → hasDayAt (ruleAt (counts c) y m d) y m d ≡ true
+  has-by h = and-parts (not (isDropped (counts c) y m d)) (hasDayAt (ruleAt (counts c) y m d) y m d) (sym exists-by ∙ h) .1
+
+  pub lag-at-small : lagAt (counts c) y m d ≤ 300
+  lag-at-small = go (isEarly (counts c) y m d)
+    where
+      go : (t : Bool) → cond t (lag (counts c)) 0 ≤ 300
+      go true = cutover c .lag-small
+      go false = omega arith

@@ -1,35 +1,29 @@
 -- The day number of a date is the number whose date it is.
-use mathlib.Core.Path.{_≡_, refl, sym, ap, _∙_}
-use mathlib.Core.Bool.{Bool, true, false, cond, _&&_}
+use mathlib.Core.Path.{_≡_, sym, ap, _∙_}
+use mathlib.Core.Bool.{Bool, true, false, cond}
 use Prim.Native.Nat.{ℕ, zero, suc, _+_, _-_, _<_, _≤_}
 use native.Mathlib.Omega.{arith}
 use native.Mathlib.Decide.{decLe}
-use lib.Dec.{eqb}
 use lib.IntN.{ℤ, sucℤ, subℕ}
-use borrow.Author.Tests.{eqb-true, eq-eqb}
-use Rattle.signed.proofs.Tests.{and-parts, both, to-false}
+use Rattle.signed.proofs.Tests.{to-false}
 use Rattle.signed.proofs.Differences.{sub-suc, sub-inj}
-use Rattle.calendar.specs.Calendar.{dateOf, inYears}
-use Rattle.calendar.specs.Order.{sameYear, sameDate}
+use Rattle.calendar.specs.Calendar.{dateOf, inYears, rowOf}
+use Rattle.calendar.specs.Order.{sameDate}
 use Rattle.calendar.specs.Answers.{numberFrom, dayNumber}
 use Rattle.calendar.specs.declared.Calendar.{Calendar}
 use Rattle.calendar.specs.declared.Date.{Date}
-use Rattle.calendar.proofs.Existing.{date-eq}
-use Rattle.calendar.proofs.Ordered.{same-year, year-eq, one-day}
+pub use Rattle.calendar.proofs.Ordered.{same-of, same-self}
+use Rattle.calendar.proofs.Walk as Walk
+use Rattle.calendar.proofs.Days.{row-chain, row-start}
+use Rattle.calendar.proofs.Rows.{cutover}
 use Rattle.calendar.proofs.Range.{near}
 
-pub same-of : (x y : Date) → sameDate x y ≡ true → x ≡ y
-same-of x y h =
-    let p = and-parts (sameYear (x .year) (y .year)) (eqb (x .month) (y .month) && eqb (x .day) (y .day)) h in
-    let q = and-parts (eqb (x .month) (y .month)) (eqb (x .day) (y .day)) (p .1) in
-    date-eq (year-eq (x .year) (y .year) (p .0)) (eqb-true (x .month) (y .month) (q .0)) (eqb-true (x .day) (y .day) (q .1))
-
-pub same-self : (x : Date) → sameDate x x ≡ true
-same-self x =
-    both (sameYear (x .year) (x .year)) (eqb (x .month) (x .month) && eqb (x .day) (x .day)) (same-year (x .year))
-    (both (eqb (x .month) (x .month)) (eqb (x .day) (x .day)) (eq-eqb (x .month) (x .month) refl) (eq-eqb (x .day) (x .day) refl))
-
 module _ (c : Calendar) where
+  -- no two day numbers share a date
+  pub one-day : (z w : ℤ) → dateOf c z ≡ dateOf c w → z ≡ w
+  unfolding dateOf
+  one-day = Walk.one-day (rowOf c) (row-chain (rowOf c) (cutover c)) (row-start (rowOf c) (cutover c))
+
   -- the search finds the number n of a date, from any s at or below it
   search : (x : Date) (k s n b : ℕ) → s ≤ n → n < s + k → dateOf c (subℕ n b) ≡ x → numberFrom c x k (subℕ s b) ≡ subℕ n b
   unfolding numberFrom
@@ -37,7 +31,7 @@ module _ (c : Calendar) where
   search x (suc k) s n b h g e =
       elim (decLe (suc s) n) [
         | yes l ↦
-            let other : sameDate (dateOf c (subℕ s b)) x ≡ false = to-false (sameDate (dateOf c (subℕ s b)) x) (λ u. omega (arith, sub-inj s n b (one-day c (subℕ s b) (subℕ n b) (same-of (dateOf c (subℕ s b)) x u ∙ sym e)))) in
+            let other : sameDate (dateOf c (subℕ s b)) x ≡ false = to-false (sameDate (dateOf c (subℕ s b)) x) (λ u. omega (arith, sub-inj s n b (one-day (subℕ s b) (subℕ n b) (same-of (dateOf c (subℕ s b)) x u ∙ sym e)))) in
             ap (λ (t : Bool). cond t (subℕ s b) (numberFrom c x k (sucℤ (subℕ s b)))) other
             ∙ (ap (numberFrom c x k) (sub-suc s b) ∙ search x k (suc s) n b l (omega arith) e)
         | no l ↦

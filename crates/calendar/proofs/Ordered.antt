@@ -1,21 +1,23 @@
--- The dates of the day numbers are in the order of the numbers, on all of ℤ; so no two day numbers share a date.
-use mathlib.Core.Path.{_≡_, refl, sym, ap, _∙_, subst}
-use mathlib.Core.Bool.{Bool, true, false, _&&_, _||_, or-true, true≢false, false≢true}
-use Prim.Native.Nat.{ℕ, zero, suc, _+_, _-_, _<_, _≤_}
+-- The order of dates: field by field, as a relation, and any two dates compared.
+use mathlib.Core.Path.{_≡_, refl, sym, ap, _∙_}
+use mathlib.Core.Bool.{Bool, true, false, not, _&&_, _||_, or-true, true≢false, false≢true}
+use Prim.Native.Nat.{ℕ, suc, _+_, _<_}
 use native.Mathlib.Omega.{arith}
 use native.Mathlib.Decide.{decLe}
-use lib.Dec.{leb, ltb, eqb}
-use lib.IntN.{ℤ, pos, negsuc, sucℤ, subℕ}
-use lib.Signed.{leZ, ltZ}
-use borrow.Author.Tests.{lt-ltb, le-ltb, ltb-true, eqb-true, eq-eqb, leb-true}
-use Rattle.signed.proofs.Tests.{to-false}
-use Rattle.signed.proofs.Order.{lt-suc, lt-trans, lt-irrefl, le-refl, le-of-lt}
-use Rattle.signed.proofs.Differences.{Common, common, sub-suc, sub-le, sub-lt}
-use Rattle.calendar.specs.Calendar.{hasYearZero, yearAfter, skipAfter, date, dateOf}
-use Rattle.calendar.specs.Order.{sameYear, earlier}
+use lib.Dec.{ltb, eqb}
+use lib.IntN.{ℤ, pos, negsuc}
+use lib.Signed.{ltZ}
+use borrow.Author.Tests.{lt-ltb, ltb-true, eqb-true, eq-eqb}
+use Rattle.signed.proofs.Tests.{to-false, both, and-parts}
+use Rattle.signed.proofs.Order.{lt-trans, lt-irrefl}
+use Rattle.calendar.specs.Calendar.{hasYearZero, yearAfter, date}
+use Rattle.calendar.specs.Order.{sameYear, earlier, sameDate}
 use Rattle.calendar.specs.declared.Calendar.{Calendar}
 use Rattle.calendar.specs.declared.Date.{Date}
-use Rattle.calendar.proofs.Following.{Follows, cutover, day, month, year, dates-follow}
+use Rattle.calendar.proofs.YearZero as YearZero
+
+pub date-eq : {p q : Date} → p .year ≡ q .year → p .month ≡ q .month → p .day ≡ q .day → p ≡ q
+date-eq a b c = λ i. record { year = a i; month = b i; day = c i }
 
 -- ---- years
 
@@ -29,18 +31,9 @@ year-eq (pos m) (negsuc n) h = absurd (false≢true h)
 year-eq (negsuc m) (pos n) h = absurd (false≢true h)
 year-eq (negsuc m) (negsuc n) h = ap negsuc (eqb-true m n h)
 
-lt-skip : (y : ℤ) → ltZ y (skipAfter y) ≡ true
-lt-skip (pos n) = lt-ltb n (suc n) (omega arith)
-lt-skip (negsuc zero) = refl
-lt-skip (negsuc (suc n)) = lt-ltb n (suc n) (omega arith)
-
 pub year-later : (c : Calendar) (y : ℤ) → ltZ y (yearAfter c y) ≡ true
 unfolding yearAfter
-year-later c y = go (hasYearZero c)
-  where
-    go : (z : Bool) → ltZ y (mathlib.Core.Bool.cond z (sucℤ y) (skipAfter y)) ≡ true
-    go true = lt-suc y
-    go false = lt-skip y
+year-later c y = YearZero.later (hasYearZero c) y
 
 -- ---- the three ways to be earlier
 
@@ -83,92 +76,116 @@ not-before x (by-year h) = true≢false (sym h ∙ lt-irrefl (x .year))
 not-before x (by-month e h) = omega arith
 not-before x (by-day e f h) = omega arith
 
--- ---- a date that follows is later
+pub not-earlier : (x y : Date) → (Before x y → ⊥) → earlier x y ≡ false
+not-earlier x y f = to-false (earlier x y) (λ h. f (before-of x y h))
 
-later : (c : Calendar) {x y : Date} → Follows c x y → Before x y
-later c (cutover s) = by-day refl refl (omega arith)
-later c (day y m d a b e f) = by-day refl refl (omega arith)
-later c (month y m a b) = by-month refl (omega arith)
-later c (year y n) = by-year (year-later c y)
+-- ---- any two dates compared
 
-module _ (c : Calendar) where
-  rising : (a b n : ℕ) → Before (dateOf c (subℕ a b)) (dateOf c (subℕ (a + suc n) b))
-  rising a b zero = subst (λ (z : ℤ). Before (dateOf c (subℕ a b)) (dateOf c z)) (sub-suc a b ∙ ap (λ (n : ℕ). subℕ n b) (omega arith)) (later c (dates-follow c (subℕ a b)))
-  rising a b (suc n) =
-      let step : Before (dateOf c (subℕ (a + suc n) b)) (dateOf c (sucℤ (subℕ (a + suc n) b))) = later c (dates-follow c (subℕ (a + suc n) b)) in
-      subst (λ (z : ℤ). Before (dateOf c (subℕ a b)) (dateOf c z)) (sub-suc (a + suc n) b ∙ ap (λ (n : ℕ). subℕ n b) (omega arith))
-      (before-trans (dateOf c (subℕ a b)) (dateOf c (subℕ (a + suc n) b)) (dateOf c (sucℤ (subℕ (a + suc n) b))) (rising a b n) step)
+data Years (a b : ℤ) : Type 0 where
+  less : ltZ a b ≡ true → Years a b
+  same : a ≡ b → Years a b
+  more : ltZ b a ≡ true → Years a b
 
-  before-to : (a a′ b : ℕ) → a < a′ → Before (dateOf c (subℕ a b)) (dateOf c (subℕ a′ b))
-  before-to a a′ b h = let e : a + suc (a′ - suc a) ≡ a′ = omega arith in subst (λ (n : ℕ). Before (dateOf c (subℕ a b)) (dateOf c (subℕ n b))) e (rising a b (a′ - suc a))
+years : (a b : ℤ) → Years a b
+years (pos a) (pos b) =
+    elim (decLe (suc a) b) [
+      | yes h ↦ less (lt-ltb a b h)
+      | no h ↦ elim (decLe (suc b) a) [
+        | yes g ↦ more (lt-ltb b a g)
+        | no g ↦ same (ap pos (omega arith))
+      ]
+    ]
+years (pos a) (negsuc b) = more refl
+years (negsuc a) (pos b) = less refl
+years (negsuc a) (negsuc b) =
+    elim (decLe (suc a) b) [
+      | yes h ↦ more (lt-ltb a b h)
+      | no h ↦ elim (decLe (suc b) a) [
+        | yes g ↦ less (lt-ltb b a g)
+        | no g ↦ same (ap negsuc (omega arith))
+      ]
+    ]
 
-  order-at : (a a′ b : ℕ) → earlier (dateOf c (subℕ a b)) (dateOf c (subℕ a′ b)) ≡ ltb a a′
-  order-at a a′ b = go (decLe (suc a) a′) (decLe (suc a′) a)
-    where
-      x : Date
-      x = dateOf c (subℕ a b)
+pub data Compared (x y : Date) : Type 0 where
+  earlier-than : Before x y → Compared x y
+  same-as : x ≡ y → Compared x y
+  later-than : Before y x → Compared x y
 
-      y : Date
-      y = dateOf c (subℕ a′ b)
-
-      go : Dec (suc a ≤ a′) → Dec (suc a′ ≤ a) → earlier x y ≡ ltb a a′
-      go (yes h) g = earlier-of x y (before-to a a′ b h) ∙ sym (lt-ltb a a′ h)
-      go (no h) (yes g) = to-false (earlier x y) (λ e. not-before x (before-trans x y x (before-of x y e) (before-to a′ a b g))) ∙ sym (le-ltb a a′ (omega arith))
-      go (no h) (no g) =
-          let e : a ≡ a′ = omega arith in
-          to-false (earlier x y) (λ u. not-before y (subst (λ (n : ℕ). Before (dateOf c (subℕ n b)) y) e (before-of x y u))) ∙ sym (le-ltb a a′ (omega arith))
-
-  -- of two day numbers the less has the earlier date, and the other way round
-  pub order : (z w : ℤ) → earlier (dateOf c z) (dateOf c w) ≡ ltZ z w
-  order z w =
-      let k = common z w in
-      (λ i. earlier (dateOf c (sym (k .is-left) i)) (dateOf c (sym (k .is-right) i)))
-      ∙ (order-at (k .left) (k .right) (k .least)
-      ∙ (sym (sub-lt (k .left) (k .right) (k .least)) ∙ (λ i. ltZ (k .is-left i) (k .is-right i))))
-
-  -- no two day numbers share a date
-  pub one-day : (z w : ℤ) → dateOf c z ≡ dateOf c w → z ≡ w
-  one-day z w e = sym (k .is-left) ∙ (ap (λ (n : ℕ). subℕ n (k .least)) same ∙ k .is-right)
-    where
-      k : Common z w
-      k = common z w
-
-      x : Date
-      x = dateOf c (subℕ (k .left) (k .least))
-
-      y : Date
-      y = dateOf c (subℕ (k .right) (k .least))
-
-      e′ : x ≡ y
-      e′ = ap (dateOf c) (k .is-left) ∙ (e ∙ sym (ap (dateOf c) (k .is-right)))
-
-      same : k .left ≡ k .right
-      same =
-          elim (decLe (suc (k .left)) (k .right)) [
-            | yes h ↦ absurd (not-before y (subst (λ (d : Date). Before d y) e′ (before-to (k .left) (k .right) (k .least) h)))
-            | no h ↦ elim (decLe (suc (k .right)) (k .left)) [
-              | yes g ↦ absurd (not-before y (subst (λ (d : Date). Before y d) e′ (before-to (k .right) (k .left) (k .least) g)))
-              | no g ↦ omega arith
+pub compare : (x y : Date) → Compared x y
+compare x y = go (years (x .year) (y .year))
+  where
+    go : Years (x .year) (y .year) → Compared x y
+    go (less h) = earlier-than (by-year h)
+    go (more h) = later-than (by-year h)
+    go (same e) =
+        elim (decLe (suc (x .month)) (y .month)) [
+          | yes h ↦ earlier-than (by-month e h)
+          | no h ↦ elim (decLe (suc (y .month)) (x .month)) [
+            | yes g ↦ later-than (by-month (sym e) g)
+            | no g ↦ elim (decLe (suc (x .day)) (y .day)) [
+              | yes d ↦ earlier-than (by-day e (omega arith) d)
+              | no d ↦ elim (decLe (suc (y .day)) (x .day)) [
+                | yes f ↦ later-than (by-day (sym e) (omega arith) f)
+                | no f ↦ same-as (date-eq e (omega arith) (omega arith))
+              ]
             ]
           ]
+        ]
 
-  -- years do not fall
-  pub years-rise : (z w : ℤ) → leZ z w ≡ true → leZ (dateOf c z .year) (dateOf c w .year) ≡ true
-  years-rise z w h =
-      let k = common z w in
-      let l : k .left ≤ k .right = leb-true (k .left) (k .right) (sym (sub-le (k .left) (k .right) (k .least)) ∙ ((λ i. leZ (k .is-left i) (k .is-right i)) ∙ h)) in
-      (λ i. leZ (dateOf c (sym (k .is-left) i) .year) (dateOf c (sym (k .is-right) i) .year)) ∙ go (k .left) (k .right) (k .least) l
-    where
-      not-later : (x y : Date) → Before x y → leZ (x .year) (y .year) ≡ true
-      not-later x y (by-year u) = le-of-lt (x .year) (y .year) u
-      not-later x y (by-month u v) = ap (λ (a : ℤ). leZ a (y .year)) u ∙ le-refl (y .year)
-      not-later x y (by-day u v q) = ap (λ (a : ℤ). leZ a (y .year)) u ∙ le-refl (y .year)
+-- ---- the test for the same date
 
-      go : (a a′ b : ℕ) → a ≤ a′ → leZ (dateOf c (subℕ a b) .year) (dateOf c (subℕ a′ b) .year) ≡ true
-      go a a′ b l =
-          elim (decLe (suc a) a′) [
-            | yes g ↦ not-later (dateOf c (subℕ a b)) (dateOf c (subℕ a′ b)) (before-to a a′ b g)
-            | no g ↦
-                let e : a ≡ a′ = omega arith in
-                ap (λ (n : ℕ). leZ (dateOf c (subℕ n b) .year) (dateOf c (subℕ a′ b) .year)) e ∙ le-refl (dateOf c (subℕ a′ b) .year)
-          ]
+pub same-of : (x y : Date) → sameDate x y ≡ true → x ≡ y
+same-of x y h =
+    let p = and-parts (sameYear (x .year) (y .year)) (eqb (x .month) (y .month) && eqb (x .day) (y .day)) h in
+    let q = and-parts (eqb (x .month) (y .month)) (eqb (x .day) (y .day)) (p .1) in
+    date-eq (year-eq (x .year) (y .year) (p .0)) (eqb-true (x .month) (y .month) (q .0)) (eqb-true (x .day) (y .day) (q .1))
+
+pub same-self : (x : Date) → sameDate x x ≡ true
+same-self x =
+    both (sameYear (x .year) (x .year)) (eqb (x .month) (x .month) && eqb (x .day) (x .day)) (same-year (x .year))
+    (both (eqb (x .month) (x .month)) (eqb (x .day) (x .day)) (eq-eqb (x .month) (x .month) refl) (eq-eqb (x .day) (x .day) refl))
+
+pub not-same : (x y : Date) → (x ≡ y → ⊥) → sameDate x y ≡ false
+not-same x y f = to-false (sameDate x y) (λ h. f (same-of x y h))
+
+-- ---- between two days of a month
+
+-- w lies in month m of year y, after day a and before day b
+pub record InMonth (y : ℤ) (m a b : ℕ) (w : Date) : Type 0 where
+  pub year : y ≡ w .year
+  pub month : m ≡ w .month
+  pub after : a < w .day
+  pub before : w .day < b
+
+-- no year is less than itself
+pub clash : (a b : ℤ) → ltZ a b ≡ true → a ≡ b → ⊥
+clash a b h e = true≢false (sym h ∙ (ap (ltZ a) (sym e) ∙ lt-irrefl a))
+
+pub in-month : (y : ℤ) (m a b : ℕ) (w : Date) → Before (date y m a) w → Before w (date y m b) → InMonth y m a b w
+in-month y m a b w (by-day e f p) (by-day g h q) = record { year = e; month = f; after = p; before = q }
+in-month y m a b w (by-year p) (by-year q) = absurd (clash y y (lt-trans y (w .year) y p q) refl)
+in-month y m a b w (by-year p) (by-month e q) = absurd (clash y (w .year) p (sym e))
+in-month y m a b w (by-year p) (by-day e f q) = absurd (clash y (w .year) p (sym e))
+in-month y m a b w (by-month e p) (by-year q) = absurd (clash (w .year) y q (sym e))
+in-month y m a b w (by-month e p) (by-month f q) = absurd (omega arith)
+in-month y m a b w (by-month e p) (by-day f g q) = absurd (omega arith)
+in-month y m a b w (by-day e g p) (by-year q) = absurd (clash (w .year) y q (sym e))
+in-month y m a b w (by-day e g p) (by-month f q) = absurd (omega arith)
+
+-- not after a day of a month is before the day after it, as it is written
+pub not-after : (y : ℤ) (m d : ℕ) (x : Date) → not (earlier (date y m d) x) ≡ earlier x (date y m (d + 1))
+not-after y m d x = go (compare x (date y m d))
+  where
+    l : Date
+    l = date y m d
+
+    below : (Before l x → ⊥) → Before x (date y m (d + 1)) → not (earlier l x) ≡ earlier x (date y m (d + 1))
+    below f h = ap not (not-earlier l x f) ∙ sym (earlier-of x (date y m (d + 1)) h)
+
+    next : Before l (date y m (d + 1))
+    next = by-day refl refl (omega arith)
+
+    go : Compared x l → not (earlier l x) ≡ earlier x (date y m (d + 1))
+    go (earlier-than h) = below (λ g. not-before x (before-trans x l x h g)) (before-trans x l (date y m (d + 1)) h next)
+    go (same-as e) = below (λ g. not-before l (rw e at g)) (rw e next)
+    go (later-than h) = ap not (earlier-of l x h) ∙ sym (not-earlier x (date y m (d + 1)) (λ g. let w = in-month y m d (d + 1) x h g in omega (arith, w .after, w .before)))

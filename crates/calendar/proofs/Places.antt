@@ -1,6 +1,6 @@
 -- Stepping from place 0 0 0 of a rule: the place after n steps is the one place with n days before it.
 use mathlib.Core.Path.{_≡_, refl, sym, ap, _∙_, subst}
-use mathlib.Core.Bool.{Bool, true, false}
+use mathlib.Core.Bool.{Bool, true, false, cond}
 use Prim.Native.Nat.{ℕ, zero, suc, _+_, _-_, _<_, _≤_, _^_}
 use native.Mathlib.Omega.{arith}
 use native.Mathlib.Nat.{add-zero, add-suc, le-refl, le-trans}
@@ -8,11 +8,11 @@ use native.Mathlib.Numerals.{add-one}
 use native.Mathlib.Decide.{decLe}
 use lib.Dec.{ltb}
 use borrow.Author.Tests.{ltb-true, ltb-false}
-use Rattle.calendar.specs.Calendar.{monthDays}
-use Rattle.calendar.specs.Closed.{row, monthStart, yearStart, place, count, Proper, Split, Held}
+use Rattle.calendar.specs.Plain.{monthDays}
+use Rattle.calendar.specs.Closed.{kindAt, monthStart, yearStart, placeAt, count, Proper, Split, Held}
 use Rattle.calendar.specs.declared.rule.Rule.{Rule}
 use Rattle.calendar.specs.declared.place.Place.{Place}
-use Rattle.calendar.proofs.Years.{year-law, year-zero, year-above, row-low}
+use Rattle.calendar.proofs.Years.{year-law, year-zero, year-least, kind-low}
 use Rattle.calendar.proofs.Tables.{month-days}
 
 -- ---- a sequence that does not fall
@@ -59,49 +59,45 @@ pub place-eq : {p q : Place} → p .y ≡ q .y → p .m ≡ q .m → p .i ≡ q 
 place-eq a b c = λ i. record { y = a i; m = b i; i = c i }
 
 module _ (r : Rule) where
-  pub in-row : (p : Place) → Proper r p → (yearStart r (p .y) ≤ count r p) × (count r p < yearStart r (suc (p .y)))
+  pub within-year : (p : Place) → Proper r p → (yearStart r (p .y) ≤ count r p) × (count r p < yearStart r (suc (p .y)))
   unfolding count
-  in-row p h = omega (arith, year-law r (p .y), in-year (row r (p .y)) (p .m) (p .i) (h .month) (h .day))
+  within-year p h = omega (arith, year-law r (p .y), in-year (kindAt r (p .y)) (p .m) (p .i) (h .month) (h .day))
 
   pub same-place : (p q : Place) → Proper r p → Proper r q → count r p ≡ count r q → p ≡ q
   unfolding count
   same-place p q h g e =
       let n = count r p in
-      let ey : p .y ≡ q .y = bracket (yearStart r) (year-grows r) n (p .y) (q .y) (in-row p h .0) (in-row p h .1) (omega (arith, in-row q g)) (omega (arith, in-row q g)) in
-      let k = row r (p .y) in
-      let f : q .i < monthDays k (q .m) = subst (λ (y : ℕ). q .i < monthDays (row r y) (q .m)) (sym ey) (g .day) in
-      let e′ : yearStart r (p .y) + monthStart k (p .m) + p .i ≡ yearStart r (p .y) + monthStart k (q .m) + q .i = e ∙ ap (λ (y : ℕ). yearStart r y + monthStart (row r y) (q .m) + q .i) (sym ey) in
+      let ey : p .y ≡ q .y = bracket (yearStart r) (year-grows r) n (p .y) (q .y) (within-year p h .0) (within-year p h .1) (omega (arith, within-year q g)) (omega (arith, within-year q g)) in
+      let k = kindAt r (p .y) in
+      let f : q .i < monthDays k (q .m) = subst (λ (y : ℕ). q .i < monthDays (kindAt r y) (q .m)) (sym ey) (g .day) in
+      let e′ : yearStart r (p .y) + monthStart k (p .m) + p .i ≡ yearStart r (p .y) + monthStart k (q .m) + q .i = e ∙ ap (λ (y : ℕ). yearStart r y + monthStart (kindAt r y) (q .m) + q .i) (sym ey) in
       let em : p .m ≡ q .m = bracket (monthStart k) (month-grows k) (monthStart k (p .m) + p .i) (p .m) (q .m) (omega arith) (omega (arith, month-end k (p .m), h .day)) (omega arith) (omega (arith, month-end k (q .m), f)) in
       place-eq ey em (omega (arith, ap (monthStart k) em))
 
 -- ---- one step, and N steps
 
-abbrev pub pickPlace : Bool → Place → Place → Place
-pickPlace true a b = a
-pickPlace false a b = b
-
 unfoldable pub stepPlace : Rule → Place → Place
 stepPlace r p =
-    pickPlace (ltb (p .i + 1) (monthDays (row r (p .y)) (p .m)))
-    (place (p .y) (p .m) (p .i + 1))
-    (pickPlace (ltb (p .m + 1) 12) (place (p .y) (p .m + 1) 0) (place (suc (p .y)) 0 0))
+    cond (ltb (p .i + 1) (monthDays (kindAt r (p .y)) (p .m)))
+    (placeAt (p .y) (p .m) (p .i + 1))
+    (cond (ltb (p .m + 1) 12) (placeAt (p .y) (p .m + 1) 0) (placeAt (suc (p .y)) 0 0))
 
 Stepped : Rule → Place → Place → Type 0
 Stepped r p q = Proper r q × (count r q ≡ suc (count r p))
 
-step-by : (r : Rule) (p : Place) → Proper r p → (a b : Bool) → ltb (p .i + 1) (monthDays (row r (p .y)) (p .m)) ≡ a → ltb (p .m + 1) 12 ≡ b
-    → Stepped r p (pickPlace a (place (p .y) (p .m) (p .i + 1)) (pickPlace b (place (p .y) (p .m + 1) 0) (place (suc (p .y)) 0 0)))
+step-by : (r : Rule) (p : Place) → Proper r p → (a b : Bool) → ltb (p .i + 1) (monthDays (kindAt r (p .y)) (p .m)) ≡ a → ltb (p .m + 1) 12 ≡ b
+    → Stepped r p (cond a (placeAt (p .y) (p .m) (p .i + 1)) (cond b (placeAt (p .y) (p .m + 1) 0) (placeAt (suc (p .y)) 0 0)))
 unfolding Stepped count
 step-by r p h true b e f = (record { month = h .month; day = ltb-true _ _ e }, omega arith)
 step-by r p h false true e f =
     let m = ltb-true _ _ f in (
-      record { month = m; day = omega (arith, month-days (row r (p .y)) (p .m + 1) (row-low r (p .y)) m) },
-      omega (arith, h .day, ltb-false (p .i + 1) (monthDays (row r (p .y)) (p .m)) e, month-end (row r (p .y)) (p .m), ap (monthStart (row r (p .y))) (add-one (p .m))),
+      record { month = m; day = omega (arith, month-days (kindAt r (p .y)) (p .m + 1) (kind-low r (p .y)) m) },
+      omega (arith, h .day, ltb-false (p .i + 1) (monthDays (kindAt r (p .y)) (p .m)) e, month-end (kindAt r (p .y)) (p .m), ap (monthStart (kindAt r (p .y))) (add-one (p .m))),
     )
 step-by r p h false false e f =
     let m : p .m ≡ 11 = omega (arith, h .month, ltb-false (p .m + 1) 12 f) in (
-      record { month = omega arith; day = omega (arith, month-days (row r (suc (p .y))) 0 (row-low r (suc (p .y))) (omega arith)) },
-      omega (arith, h .day, ltb-false (p .i + 1) (monthDays (row r (p .y)) (p .m)) e, month-end (row r (p .y)) (p .m), ap (λ (x : ℕ). monthStart (row r (p .y)) (suc x)) m, month-first (row r (suc (p .y))), year-law r (p .y)),
+      record { month = omega arith; day = omega (arith, month-days (kindAt r (suc (p .y))) 0 (kind-low r (suc (p .y))) (omega arith)) },
+      omega (arith, h .day, ltb-false (p .i + 1) (monthDays (kindAt r (p .y)) (p .m)) e, month-end (kindAt r (p .y)) (p .m), ap (λ (x : ℕ). monthStart (kindAt r (p .y)) (suc x)) m, month-first (kindAt r (suc (p .y))), year-law r (p .y)),
     )
 
 stepped : (r : Rule) (p : Place) → Proper r p → Stepped r p (stepPlace r p)
@@ -110,7 +106,7 @@ stepped r p h = step-by r p h _ _ refl refl
 
 -- the place after n steps
 unfoldable pub at : Rule → ℕ → Place
-at r zero = place 0 0 0
+at r zero = placeAt 0 0 0
 at r (suc n) = stepPlace r (at r n)
 
 pub at-step : (r : Rule) (n : ℕ) → at r (suc n) ≡ stepPlace r (at r n)
@@ -119,7 +115,7 @@ at-step r n = refl
 
 at-facts : (r : Rule) (n : ℕ) → Proper r (at r n) × (count r (at r n) ≡ n)
 unfolding at count Stepped
-at-facts r zero = (record { month = omega arith; day = omega (arith, month-days (row r 0) 0 (row-low r 0) (omega arith)) }, omega (arith, year-zero r, month-first (row r 0)))
+at-facts r zero = (record { month = omega arith; day = omega (arith, month-days (kindAt r 0) 0 (kind-low r 0) (omega arith)) }, omega (arith, year-zero r, month-first (kindAt r 0)))
 at-facts r (suc n) =
     let h = at-facts r n in
     let s = stepped r (at r n) (h .0) in
@@ -136,7 +132,7 @@ pub at-is : (r : Rule) (p : Place) (n : ℕ) → Proper r p → count r p ≡ n 
 at-is r p n h e = same-place r (at r n) p (at-proper r n) h (at-count r n ∙ sym e)
 
 -- the place of a day from its year, the kind of the year, and its month
-pub split-place : (r : Rule) (n y m k a b : ℕ) → k ≡ row r y → a ≡ yearStart r y → b ≡ monthStart k m → yearStart r y ≤ n → Held k m (n - a) → Split r n (place y m (n - a - b))
+pub split-place : (r : Rule) (n y m k a b : ℕ) → k ≡ kindAt r y → a ≡ yearStart r y → b ≡ monthStart k m → yearStart r y ≤ n → Held k m (n - a) → Split r n (placeAt y m (n - a - b))
 unfolding count
 split-place r n y m k a b e f g l h =
     let d : n - a - b < monthDays k m = omega (arith, h .from, h .to, month-end k m) in
@@ -149,4 +145,4 @@ split-place r n y m k a b e f g l h =
 pub split-small : (r : Rule) (n : ℕ) (p : Place) → Split r n p → n < 2 ^ 30 → (p .y < 2 ^ 31) × (p .i < 31)
 unfolding count
 split-small r n p s h =
-    (omega (arith, s .counted, year-above r (p .y)), omega (arith, s .proper .day, month-days (row r (p .y)) (p .m) (row-low r (p .y)) (s .proper .month)))
+    (omega (arith, s .counted, year-least r (p .y)), omega (arith, s .proper .day, month-days (kindAt r (p .y)) (p .m) (kind-low r (p .y)) (s .proper .month)))

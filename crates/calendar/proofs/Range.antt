@@ -1,4 +1,4 @@
--- Which day numbers have years from -9999 to 9999: those of an interval, for each calendar.
+-- Which day numbers have years from -9999 to 9999: those of an interval, whose ends follow from the row.
 use mathlib.Core.Path.{_≡_, refl, sym, ap, _∙_}
 use mathlib.Core.Bool.{Bool, true, false, _&&_, true≢false}
 use Prim.Native.Nat.{ℕ, suc, _+_, _-_, _<_, _≤_}
@@ -7,31 +7,29 @@ use native.Mathlib.Decide.{decLe}
 use lib.Dec.{leb}
 use lib.IntN.{ℤ, pos, negsuc, subℕ}
 use lib.Signed.{leZ}
-use borrow.Author.Tests.{le-leb, lt-leb, leb-true}
+use borrow.Author.Tests.{le-leb, lt-leb, leb-true, leb-false}
 use Rattle.signed.specs.Bias.{lift}
-use Rattle.signed.proofs.Tests.{both, and-parts, left-out, right-out, to-false}
+use Rattle.signed.proofs.Tests.{and-parts, left-out, right-out, to-false, test-is}
 use Rattle.signed.proofs.Order.{le-trans}
 use Rattle.signed.proofs.Differences.{sub-low, sub-high, sub-le, lift-is, above-least, same-diff}
-use Rattle.calendar.specs.Calendar.{hasYearZero, dateOf, inYears}
-use Rattle.calendar.specs.Closed.{yearStart, yearAt, label, epochDay, firstDay, endDay}
+use Rattle.calendar.specs.Calendar.{CalendarRow, dateBy, dateOf, inYears, rowOf}
+use Rattle.calendar.specs.Closed.{yearStart, yearAt, count, countedRow, cutoverDay, lag, rowEpoch, rowStart, rowEnd, epochDay, firstDay, endDay}
 use Rattle.calendar.specs.declared.Calendar.{Calendar}
-use Rattle.calendar.specs.declared.Calendar.the-variants.{Standard, ProlepticGregorian, Julian, NoLeap, AllLeap, Day360}
 use Rattle.calendar.specs.declared.Date.{Date}
 use Rattle.calendar.specs.declared.rule.Rule.{Rule}
-use Rattle.calendar.specs.declared.rule.Rule.the-variants.{Gregorian, FourYearly, Common, Leap, Thirty}
-use Rattle.calendar.proofs.Places.{at, at-proper, at-count, in-row, grows-to, year-grows}
-use Rattle.calendar.proofs.Ordered.{years-rise}
+use Rattle.calendar.proofs.Years.{year-least, year-most}
+use Rattle.calendar.proofs.Places.{at, at-proper, at-count, within-year, grows-to, year-grows}
 use Rattle.calendar.proofs.Labels.{firstYear, year-in}
-use Rattle.calendar.proofs.Plain.{Ruled, dates, proleptic, julian, noleap, allleap, thirty}
-use Rattle.calendar.proofs.Mixed as Mixed
-use Rattle.calendar.proofs.Mixed.{place-early, place-late, year-early, year-late}
+use Rattle.calendar.proofs.Walk.{years-rise}
+use Rattle.calendar.proofs.Days.{Cutover, dayDate, date-early, date-late, first-count, late-epoch, row-chain, row-start, row-dates}
+use Rattle.calendar.proofs.Rows.{cutover}
 
 -- ---- the year of a place, from its number
 
 year-lt : (r : Rule) (n y : ℕ) → n < yearStart r y → at r n .y < y
 year-lt r n y h =
     elim (decLe y (at r n .y)) [
-      | yes g ↦ omega (arith, grows-to (yearStart r) (year-grows r) y (at r n .y) g, in-row r (at r n) (at-proper r n) .0, at-count r n)
+      | yes g ↦ omega (arith, grows-to (yearStart r) (year-grows r) y (at r n .y) g, within-year r (at r n) (at-proper r n) .0, at-count r n)
       | no g ↦ omega arith
     ]
 
@@ -39,94 +37,131 @@ year-ge : (r : Rule) (n y : ℕ) → yearStart r y ≤ n → y ≤ at r n .y
 year-ge r n y h =
     elim (decLe y (at r n .y)) [
       | yes g ↦ g
-      | no g ↦ omega (arith, grows-to (yearStart r) (year-grows r) (suc (at r n .y)) y (omega arith), in-row r (at r n) (at-proper r n) .1, at-count r n)
+      | no g ↦ omega (arith, grows-to (yearStart r) (year-grows r) (suc (at r n .y)) y (omega arith), within-year r (at r n) (at-proper r n) .1, at-count r n)
     ]
 
--- ---- the years of a calendar's day n, counted from its first place
+-- a day number lies from year y on exactly where its place does
+from-year : (r : Rule) (n y : ℕ) → leb y (at r n .y) ≡ leb (yearStart r y) n
+from-year r n y =
+    elim (decLe (yearStart r y) n) [
+      | yes g ↦ le-leb y (at r n .y) (year-ge r n y g) ∙ sym (le-leb (yearStart r y) n g)
+      | no g ↦ lt-leb y (at r n .y) (year-lt r n y (omega arith)) ∙ sym (lt-leb (yearStart r y) n (omega arith))
+    ]
 
--- the years of a calendar lie in range from day `from` to the day before `to`
-record Ranged (c : Calendar) (from to : ℕ) : Type 0 where
-  bottom : leZ (negsuc 9998) (dateOf c (subℕ 0 (epochDay c)) .year) ≡ false
-  below : (n : ℕ) → n < from → inYears (dateOf c (subℕ n (epochDay c)) .year) ≡ false
-  above : (n : ℕ) → to ≤ n → inYears (dateOf c (subℕ n (epochDay c)) .year) ≡ false
-  within : (n : ℕ) → from ≤ n → n < to → inYears (dateOf c (subℕ n (epochDay c)) .year) ≡ true
+to-year : (r : Rule) (n y : ℕ) → leb (at r n .y) y ≡ leb (suc n) (yearStart r (suc y))
+to-year r n y =
+    elim (decLe (yearStart r (suc y)) n) [
+      | yes g ↦ lt-leb (at r n .y) y (year-ge r n (suc y) g) ∙ sym (lt-leb (suc n) (yearStart r (suc y)) (omega arith))
+      | no g ↦ le-leb (at r n .y) y (omega (arith, year-lt r n (suc y) (omega arith))) ∙ sym (le-leb (suc n) (yearStart r (suc y)) (omega arith))
+    ]
+
+pub first-two : (z : Bool) → (1 ≤ firstYear z) × (firstYear z ≤ 2)
+first-two true = omega arith
+first-two false = omega arith
 
 bottom-at : (z : Bool) → leZ (negsuc 9998) (yearAt z 0) ≡ false
 bottom-at true = refl
 bottom-at false = refl
 
--- the test of a year by its count from -10000
-out-low : (z : Bool) (y : ℕ) → y < firstYear z → inYears (yearAt z y) ≡ false
-out-low z y h = year-in z y ∙ left-out (leb (firstYear z) y) (leb y 19999) (lt-leb (firstYear z) y h)
+-- ---- a row
 
-out-high : (z : Bool) (y : ℕ) → 20000 ≤ y → inYears (yearAt z y) ≡ false
-out-high z y h = year-in z y ∙ right-out (leb (firstYear z) y) (leb y 19999) (lt-leb y 19999 h)
+module _ (r : CalendarRow) (h : Cutover r) where
+  pub row-small : let k = countedRow r in (0 < rowStart k) × ((rowStart k < rowEpoch k) × ((rowEpoch k < rowEnd k) × ((rowEnd k < rowEpoch k + 5000000) × (rowEpoch k < 5000000))))
+  unfolding rowEpoch rowStart rowEnd
+  row-small =
+      let y = firstYear (r .zero) in
+      omega (arith, first-two (r .zero), year-least (r .early) y, year-most (r .early) y, h .lag-small, year-least (r .late) 11970, year-most (r .late) 11970, year-least (r .late) 20000, year-most (r .late) 20000)
 
-inside : (z : Bool) (y : ℕ) → firstYear z ≤ y → y < 20000 → inYears (yearAt z y) ≡ true
-inside z y h g = year-in z y ∙ both (leb (firstYear z) y) (leb y 19999) (le-leb (firstYear z) y h) (le-leb y 19999 (omega arith))
+  -- the numbers by the count of the early rule
+  abbrev l : ℕ
+  l = lag (countedRow r)
 
-plain : (c : Calendar) (r : Rule) → Ruled c r → Ranged c (yearStart r (firstYear (hasYearZero c))) (yearStart r 20000)
-unfolding at
-plain c r h =
-    record {
-      bottom = ap (λ (d : Date). leZ (negsuc 9998) (d .year)) (dates c r h 0) ∙ bottom-at z;
-      below = λ n g. named n ∙ out-low z (at r n .y) (year-lt r n (firstYear z) g);
-      above = λ n g. named n ∙ out-high z (at r n .y) (year-ge r n 20000 g);
-      within = λ n f g. named n ∙ inside z (at r n .y) (year-ge r n (firstYear z) f) (year-lt r n 20000 g);
-    }
-  where
-    z : Bool
-    z = hasYearZero c
+  abbrev k : ℕ
+  k = count (r .early) (countedRow r .until)
 
-    named : (n : ℕ) → inYears (dateOf c (subℕ n (epochDay c)) .year) ≡ inYears (yearAt z (at r n .y))
-    named n = ap (λ (d : Date). inYears (d .year)) (dates c r h n)
+  abbrev e : ℕ
+  e = yearStart (r .late) 11970 + l
 
--- the same of the standard calendar, on both sides of the cutover
-named-early : (n : ℕ) → n < 4230603 → inYears (dateOf Standard (subℕ n 4372030) .year) ≡ inYears (yearAt false (at FourYearly n .y))
-named-early n h = ap (λ (d : Date). inYears (d .year)) (Mixed.dates n ∙ ap (label false) (place-early n h))
+  abbrev s : ℕ
+  s = yearStart (r .early) (firstYear (r .zero))
 
-named-late : (n : ℕ) → 4230603 ≤ n → inYears (dateOf Standard (subℕ n 4372030) .year) ≡ inYears (yearAt false (at Gregorian (n - 77) .y))
-named-late n h = ap (λ (d : Date). inYears (d .year)) (Mixed.dates n ∙ ap (label false) (place-late n h))
+  abbrev t : ℕ
+  t = yearStart (r .late) 20000 + l
 
-standard-within : (n : ℕ) → 731 ≤ n → n < 7304927 → inYears (dateOf Standard (subℕ n 4372030) .year) ≡ true
-unfolding yearStart
-standard-within n h g =
-    elim (decLe (suc n) 4230603) [
-      | yes f ↦ named-early n f ∙ inside false (at FourYearly n .y) (year-ge FourYearly n 2 h) (omega (arith, year-early n f))
-      | no f ↦
-          let k : 4230603 ≤ n = omega arith in
-          let u : n - 77 < 7304850 = omega arith in
-          named-late n k ∙ inside false (at Gregorian (n - 77) .y) (omega (arith, year-late (n - 77) (omega arith))) (year-lt Gregorian (n - 77) 20000 u)
-    ]
+  -- year -9999 begins before the cutover, and the late part before year 10000 of the early rule ends
+  early-start : (s ≤ k) × (k ≤ yearStart (r .early) 20000)
+  unfolding count
+  early-start =
+      let y = firstYear (r .zero) in
+      let u = countedRow r .until .y in (
+        omega (arith, grows-to (yearStart (r .early)) (year-grows (r .early)) y u (omega (arith, first-two (r .zero), h .early-year))),
+        omega (arith, first-count r h, late-epoch r h, h .lag-small, year-most (r .late) 11970, year-least (r .early) 20000),
+      )
 
-standard : Ranged Standard 731 7304927
-unfolding yearStart at
-standard =
-    record {
-      bottom = ap (λ (d : Date). leZ (negsuc 9998) (d .year)) (Mixed.dates 0 ∙ ap (label false) (place-early 0 (omega arith)));
-      below = λ n g. named-early n (omega arith) ∙ out-low false (at FourYearly n .y) (year-lt FourYearly n 2 g);
-      above = λ n g. let u : 7304850 ≤ n - 77 = omega arith in named-late n (omega arith) ∙ out-high false (at Gregorian (n - 77) .y) (year-ge Gregorian (n - 77) 20000 u);
-      within = standard-within;
-    }
+  grows : yearStart (r .late) 11970 < yearStart (r .late) 20000
+  grows = omega (arith, year-most (r .late) 11970, year-least (r .late) 20000)
 
-ranged : (c : Calendar) → Ranged c (firstDay c) (endDay c)
-unfolding yearStart
-ranged Standard = standard
-ranged ProlepticGregorian = plain ProlepticGregorian Gregorian proleptic
-ranged Julian = plain Julian FourYearly julian
-ranged NoLeap = plain NoLeap Common noleap
-ranged AllLeap = plain AllLeap Leap allleap
-ranged Day360 = plain Day360 Thirty thirty
+  year-early : (n : ℕ) → n < k → dateBy r (subℕ n e) .year ≡ yearAt (r .zero) (at (r .early) n .y)
+  unfolding dayDate
+  year-early n g = ap (λ (d : Date). d .year) (row-dates r h n ∙ date-early r h n g)
 
--- ---- on all of ℤ
+  year-late : (n : ℕ) → k ≤ n → dateBy r (subℕ n e) .year ≡ yearAt (r .zero) (at (r .late) (n - l) .y)
+  unfolding dayDate
+  year-late n g = ap (λ (d : Date). d .year) (row-dates r h n ∙ date-late r h n g)
 
-pub small : (c : Calendar) → (0 < firstDay c) × ((firstDay c < epochDay c) × ((epochDay c < endDay c) × ((endDay c < epochDay c + 5000000) × (epochDay c < 5000000))))
-small Standard = omega arith
-small ProlepticGregorian = omega arith
-small Julian = omega arith
-small NoLeap = omega arith
-small AllLeap = omega arith
-small Day360 = omega arith
+  range-at : (n : ℕ) → inYears (dateBy r (subℕ n e) .year) ≡ (leb s n && leb n (t - 1))
+  unfolding cutoverDay
+  range-at n =
+      let z = r .zero in
+      let y = firstYear z in
+      elim (decLe (suc n) k) [
+        | yes g ↦
+            let p = at (r .early) n .y in
+            let top : leb p 19999 ≡ leb n (t - 1) = to-year (r .early) n 19999 ∙ (le-leb (suc n) (yearStart (r .early) 20000) (omega (arith, early-start)) ∙ sym (le-leb n (t - 1) (omega (arith, first-count r h, late-epoch r h, grows)))) in
+            ap inYears (year-early n g) ∙ (year-in z p ∙ (λ i. from-year (r .early) n y i && top i))
+        | no g ↦
+            let p = at (r .late) (n - l) .y in
+            let low : leb y p ≡ leb s n = le-leb y p (omega (arith, first-two z, h .late-year, year-ge (r .late) (n - l) (countedRow r .from .y) (omega (arith, first-count r h, within-year (r .late) (countedRow r .from) (h .first-proper))))) ∙ sym (le-leb s n (omega (arith, early-start))) in
+            let top : leb p 19999 ≡ leb n (t - 1) = to-year (r .late) (n - l) 19999 ∙ test-is (leb (suc (n - l)) (yearStart (r .late) 20000)) (leb n (t - 1)) (λ f. le-leb n (t - 1) (omega (arith, leb-true (suc (n - l)) (yearStart (r .late) 20000) f))) (λ f. lt-leb n (t - 1) (omega (arith, first-count r h, grows, leb-false (suc (n - l)) (yearStart (r .late) 20000) f))) in
+            ap inYears (year-late n (omega arith)) ∙ (year-in z p ∙ (λ i. low i && top i))
+      ]
+
+  -- below the first place
+  lowest : (z : ℤ) → leZ z (subℕ 0 e) ≡ true → inYears (dateBy r z .year) ≡ false
+  unfolding at
+  lowest z g =
+      let y = dateBy r z .year in
+      let bottom : leZ (negsuc 9998) (dateBy r (subℕ 0 e) .year) ≡ false = ap (leZ (negsuc 9998)) (year-early 0 (omega (arith, early-start, first-two (r .zero), year-least (r .early) (firstYear (r .zero))))) ∙ bottom-at (r .zero) in
+      left-out (leZ (negsuc 9998) y) (leZ y (pos 9999))
+      (to-false (leZ (negsuc 9998) y) (λ f. true≢false (sym (le-trans (negsuc 9998) y (dateBy r (subℕ 0 e) .year) f (years-rise r (row-chain r h) (row-start r h) z (subℕ 0 e) g)) ∙ bottom)))
+
+  range-low : (z : ℤ) → leZ z (subℕ 0 e) ≡ true → (leZ (subℕ s e) z && leZ z (subℕ (t - 1) e)) ≡ false
+  range-low z g =
+      left-out (leZ (subℕ s e) z) (leZ z (subℕ (t - 1) e))
+      (to-false (leZ (subℕ s e) z) (λ f.
+      let u : leb s 0 ≡ true = sym (sub-le s 0 e) ∙ le-trans (subℕ s e) z (subℕ 0 e) f g in
+      omega (arith, first-two (r .zero), year-least (r .early) (firstYear (r .zero)), leb-true s 0 u)))
+
+  range-early : (z : ℤ) → inYears (dateBy r z .year) ≡ (leZ (subℕ s e) z && leZ z (subℕ (t - 1) e))
+  range-early z = go (leZ z (subℕ 0 e)) refl
+    where
+      go : (b : Bool) → leZ z (subℕ 0 e) ≡ b → inYears (dateBy r z .year) ≡ (leZ (subℕ s e) z && leZ z (subℕ (t - 1) e))
+      go true g = lowest z g ∙ sym (range-low z g)
+      go false g =
+          let n = lift z e in
+          let is : subℕ n e ≡ z = lift-is z e (above-least z e g) in
+          (λ i. inYears (dateBy r (sym is i) .year)) ∙ (range-at n ∙ ((λ i. sym (sub-le s n e) i && sym (sub-le n (t - 1) e) i) ∙ (λ i. leZ (subℕ s e) (is i) && leZ (is i) (subℕ (t - 1) e))))
+
+  -- the year of a day's date lies in -9999 to 9999 exactly for the day numbers of this interval
+  pub row-range : (z : ℤ) → let k = countedRow r in inYears (dateBy r z .year) ≡ (leZ (subℕ (rowStart k) (rowEpoch k)) z && leZ z (subℕ (rowEnd k - 1) (rowEpoch k)))
+  unfolding rowEpoch rowStart rowEnd
+  row-range z =
+      let y = firstYear (r .zero) in
+      let low = same-diff s e (s - l) (yearStart (r .late) 11970) (omega (arith, h .lag-small, first-two (r .zero), year-least (r .early) y)) in
+      let high = same-diff (t - 1) e (yearStart (r .late) 20000 - 1) (yearStart (r .late) 11970) (omega (arith, grows)) in
+      range-early z ∙ (λ i. leZ (low i) z && leZ z (high i))
+
+-- ---- the calendars
 
 -- the first and the last day number of the years -9999 to 9999
 abbrev pub lowDay : Calendar → ℤ
@@ -135,41 +170,12 @@ lowDay c = subℕ (firstDay c) (epochDay c)
 abbrev pub highDay : Calendar → ℤ
 highDay c = subℕ (endDay c - 1) (epochDay c)
 
--- below the first place
-lowest : (c : Calendar) (z : ℤ) → leZ z (subℕ 0 (epochDay c)) ≡ true → inYears (dateOf c z .year) ≡ false
-lowest c z h =
-    let y = dateOf c z .year in
-    let bottom = ranged c .bottom in
-    left-out (leZ (negsuc 9998) y) (leZ y (pos 9999))
-    (to-false (leZ (negsuc 9998) y) (λ e. true≢false (sym (le-trans (negsuc 9998) y (dateOf c (subℕ 0 (epochDay c)) .year) e (years-rise c z (subℕ 0 (epochDay c)) h)) ∙ bottom)))
+pub small : (c : Calendar) → (0 < firstDay c) × ((firstDay c < epochDay c) × ((epochDay c < endDay c) × ((endDay c < epochDay c + 5000000) × (epochDay c < 5000000))))
+small c = row-small (rowOf c) (cutover c)
 
-range-at : (c : Calendar) (n : ℕ) → inYears (dateOf c (subℕ n (epochDay c)) .year) ≡ (leb (firstDay c) n && leb n (endDay c - 1))
-range-at c n =
-    elim (decLe (firstDay c) n) [
-      | yes h ↦ elim (decLe (endDay c) n) [
-        | yes g ↦ ranged c .above n g ∙ sym (right-out (leb (firstDay c) n) (leb n (endDay c - 1)) (lt-leb n (endDay c - 1) (omega (arith, small c))))
-        | no g ↦ ranged c .within n h (omega arith) ∙ sym (both (leb (firstDay c) n) (leb n (endDay c - 1)) (le-leb (firstDay c) n h) (le-leb n (endDay c - 1) (omega arith)))
-      ]
-      | no h ↦ ranged c .below n (omega arith) ∙ sym (left-out (leb (firstDay c) n) (leb n (endDay c - 1)) (lt-leb (firstDay c) n (omega arith)))
-    ]
-
-range-low : (c : Calendar) (z : ℤ) → leZ z (subℕ 0 (epochDay c)) ≡ true → (leZ (lowDay c) z && leZ z (highDay c)) ≡ false
-range-low c z h =
-    left-out (leZ (lowDay c) z) (leZ z (highDay c))
-    (to-false (leZ (lowDay c) z) (λ e.
-    let u : leb (firstDay c) 0 ≡ true = sym (sub-le (firstDay c) 0 (epochDay c)) ∙ le-trans (lowDay c) z (subℕ 0 (epochDay c)) e h in
-    omega (arith, small c, leb-true (firstDay c) 0 u)))
-
--- the year of a day's date lies in -9999 to 9999 exactly for the day numbers of this interval
 pub range : (c : Calendar) (z : ℤ) → inYears (dateOf c z .year) ≡ (leZ (lowDay c) z && leZ z (highDay c))
-range c z = go (leZ z (subℕ 0 (epochDay c))) refl
-  where
-    go : (t : Bool) → leZ z (subℕ 0 (epochDay c)) ≡ t → inYears (dateOf c z .year) ≡ (leZ (lowDay c) z && leZ z (highDay c))
-    go true h = lowest c z h ∙ sym (range-low c z h)
-    go false h =
-        let n = lift z (epochDay c) in
-        let e : subℕ n (epochDay c) ≡ z = lift-is z (epochDay c) (above-least z (epochDay c) h) in
-        (λ i. inYears (dateOf c (sym e i) .year)) ∙ (range-at c n ∙ ((λ i. sym (sub-le (firstDay c) n (epochDay c)) i && sym (sub-le n (endDay c - 1) (epochDay c)) i) ∙ (λ i. leZ (lowDay c) (e i) && leZ (e i) (highDay c))))
+unfolding dateOf
+range c = row-range (rowOf c) (cutover c)
 
 -- a day number of the interval, counted from the first place
 pub record Inside (c : Calendar) (z : ℤ) : Type 0 where
@@ -179,15 +185,15 @@ pub record Inside (c : Calendar) (z : ℤ) : Type 0 where
   pub to : number < endDay c
 
 pub inside-of : (c : Calendar) (z : ℤ) → inYears (dateOf c z .year) ≡ true → Inside c z
-inside-of c z h = go (leZ z (subℕ 0 (epochDay c))) refl
-  where
-    go : (t : Bool) → leZ z (subℕ 0 (epochDay c)) ≡ t → Inside c z
-    go true e = absurd (true≢false (sym h ∙ lowest c z e))
-    go false e =
-        let n = lift z (epochDay c) in
-        let is : subℕ n (epochDay c) ≡ z = lift-is z (epochDay c) (above-least z (epochDay c) e) in
-        let w = and-parts (leb (firstDay c) n) (leb n (endDay c - 1)) (sym (range-at c n) ∙ ((λ i. inYears (dateOf c (is i) .year)) ∙ h)) in
-        record { number = n; is = is; from = leb-true (firstDay c) n (w .0); to = omega (arith, small c, leb-true n (endDay c - 1) (w .1)) }
+inside-of c z h =
+    let b = epochDay c in
+    let w = and-parts (leZ (lowDay c) z) (leZ z (highDay c)) (sym (range c z) ∙ h) in
+    let below : leZ z (subℕ 0 b) ≡ false = to-false (leZ z (subℕ 0 b)) (λ g. let u = leb-true (firstDay c) 0 (sym (sub-le (firstDay c) 0 b) ∙ le-trans (lowDay c) z (subℕ 0 b) (w .0) g) in omega (arith, small c)) in
+    let n = lift z b in
+    let is : subℕ n b ≡ z = lift-is z b (above-least z b below) in
+    let low : leb (firstDay c) n ≡ true = sym (sub-le (firstDay c) n b) ∙ (ap (leZ (lowDay c)) is ∙ w .0) in
+    let high : leb n (endDay c - 1) ≡ true = sym (sub-le n (endDay c - 1) b) ∙ (ap (λ (y : ℤ). leZ y (highDay c)) is ∙ w .1) in
+    record { number = n; is = is; from = leb-true (firstDay c) n low; to = omega (arith, small c, leb-true n (endDay c - 1) high) }
 
 -- day numbers far from 1970
 pub far-low : (c : Calendar) (n : ℕ) → 5000000 ≤ n → inYears (dateOf c (negsuc n) .year) ≡ false

@@ -7,8 +7,8 @@ use native.Mathlib.Decide.{decLe}
 use lib.Dec.{leb, ltb, eqb}
 use borrow.Author.Tests.{leb-true, ltb-true, eqb-true}
 use Rattle.signed.proofs.Tests.{and-parts}
-use Rattle.calendar.specs.Calendar.{monthDays}
-use Rattle.calendar.specs.Closed.{monthStart, monthStartOf, monthOf, Held}
+use Rattle.calendar.specs.Plain.{monthDays}
+use Rattle.calendar.specs.Closed.{monthStart, monthStartOf, monthHolding, Held}
 
 -- a test over the numbers below n
 all : (ℕ → Bool) → ℕ → Bool
@@ -58,12 +58,12 @@ month-start k m h g =
 -- ---- the month of a day
 
 held : ℕ → ℕ → Bool
-held k d = ltb (monthOf k d) 12 && (leb (monthStart k (monthOf k d)) d && ltb d (monthStart k (suc (monthOf k d))))
+held k d = ltb (monthHolding k d) 12 && (leb (monthStart k (monthHolding k d)) d && ltb d (monthStart k (suc (monthHolding k d))))
 
-pub month-of : (k d : ℕ) → k < 3 → d < monthStart k 12 → Held k (monthOf k d) d
+pub month-of : (k d : ℕ) → k < 3 → d < monthStart k 12 → Held k (monthHolding k d) d
 unfolding all held monthStart monthDays
 month-of k d h g =
-    let m = monthOf k d in
+    let m = monthHolding k d in
     let t = by-kind (λ (j : ℕ). all (held j) (monthStart j 12) ≡ true) refl refl refl k h in
     let w = and-parts (ltb m 12) (leb (monthStart k m) d && ltb d (monthStart k (suc m))) (all-at (held k) (monthStart k 12) t d g) in
     let v = and-parts (leb (monthStart k m) d) (ltb d (monthStart k (suc m))) (w .1) in

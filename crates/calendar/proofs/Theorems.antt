@@ -1,6 +1,7 @@
--- What is proved of the calendars, in one place. `c` is any of the six calendars, z and w any integers.
-use mathlib.Core.Path.{_≡_, refl, sym, ap, _∙_, subst}
-use mathlib.Core.Bool.{Bool, true, false, not, _&&_}
+-- What is proved of the calendars, in one place. `c` is any of the six calendars, z and w any integers. Each of the first seven is a
+-- law of every row whose cutover meets `Days.Cutover`, read off for the rows of the calendars.
+use mathlib.Core.Path.{_≡_, refl, sym, ap, _∙_}
+use mathlib.Core.Bool.{Bool, true, false, _&&_, cond}
 use Prim.Native.Nat.{ℕ, suc, _+_, _-_}
 use native.Mathlib.Omega.{arith}
 use lib.IntN.{ℤ, pos, negsuc, sucℤ, subℕ}
@@ -10,20 +11,24 @@ use borrow.Author.Tests.{leb-true, eqb-false}
 use Rattle.refusal.specs.declared.Refusal.the-variants.{NoSuchDate, OutOfRange}
 use Rattle.signed.proofs.Tests.{and-parts}
 use Rattle.signed.proofs.Differences.{sub-low, sub-high}
-use Rattle.calendar.specs.Calendar.{hasYearZero, isYear, kind, next, prev, dateOf, exists, inYears, date}
+use Rattle.calendar.specs.Plain.{lacksYear}
+use Rattle.calendar.specs.Calendar.{hasYearZero, next, prev, dateOf, exists, inYears, date, rowOf, nextBy, prevBy, existsBy, epoch}
 use Rattle.calendar.specs.Order.{earlier}
-use Rattle.calendar.specs.Answers.{dayNumber, dayAnswer, pickDayAnswer}
-use Rattle.calendar.specs.Closed.{yearAt, monthStart, dayAt, epochDay}
+use Rattle.calendar.specs.Answers.{dayNumber, dayAnswer}
+use Rattle.calendar.specs.Closed.{yearAt, count, dayPlace, counts, ruleAt, lagAt, epochDay}
 use Rattle.calendar.specs.declared.Calendar.{Calendar}
 use Rattle.calendar.specs.declared.Date.{Date}
 use Rattle.calendar.specs.declared.DayAnswer.{DayAnswer}
-use Rattle.calendar.proofs.Existing.{date-eq, Valid, valid-of, valid-year}
+use Rattle.calendar.proofs.Existing.{date-eq, valid-of, valid-year}
 use Rattle.calendar.proofs.Labels.{year-low, year-high}
-use Rattle.calendar.proofs.Following as Following
-use Rattle.calendar.proofs.Ordered as Ordered
+use Rattle.calendar.proofs.Plain.{Chain}
+use Rattle.calendar.proofs.Walk as Walk
+use Rattle.calendar.proofs.Days.{row-chain, row-start}
+use Rattle.calendar.proofs.Rows.{cutover}
 use Rattle.calendar.proofs.Range as Range
 use Rattle.calendar.proofs.Range.{lowDay, highDay}
 use Rattle.calendar.proofs.Counting.{numbered}
+use Rattle.calendar.proofs.Numbering as Numbering
 use Rattle.calendar.proofs.Numbering.{number-is}
 
 -- the count of a year from -10000
@@ -31,7 +36,7 @@ pub record Count (z : Bool) (y : ℤ) : Type 0 where
   pub count : ℕ
   pub is : yearAt z count ≡ y
 
-pub count-of : (z : Bool) (y : ℤ) → inYears y ≡ true → (not z && isYear 0 y) ≡ false → Count z y
+pub count-of : (z : Bool) (y : ℤ) → inYears y ≡ true → lacksYear z y ≡ false → Count z y
 count-of true (pos n) h g = record { count = n + 10000; is = sub-high (n + 10000) 10000 (omega arith) ∙ ap pos (omega arith) }
 count-of true (negsuc n) h g =
     let l = leb-true n 9998 (and-parts (leb n 9998) true h .0) in
@@ -44,27 +49,38 @@ count-of false (negsuc n) h g =
     record { count = 10000 - n; is = year-low (10000 - n) (omega arith) ∙ ap negsuc (omega arith) }
 
 module _ (c : Calendar) where
+  chain : Chain (nextBy (rowOf c)) (prevBy (rowOf c)) (existsBy (rowOf c))
+  chain = row-chain (rowOf c) (cutover c)
+
+  start : existsBy (rowOf c) epoch ≡ true
+  start = row-start (rowOf c) (cutover c)
+
   -- undoing undoes
   pub next-prev : (x : Date) → exists c x ≡ true → next c (prev c x) ≡ x
-  next-prev = Following.next-prev c
+  unfolding next prev exists
+  next-prev = chain .redone
 
   pub prev-next : (x : Date) → exists c x ≡ true → prev c (next c x) ≡ x
-  prev-next = Following.prev-next c
+  unfolding next prev exists
+  prev-next = chain .undone
 
   -- every day number has a date that exists, and the next number has the next date
   pub dates-exist : (z : ℤ) → exists c (dateOf c z) ≡ true
-  dates-exist = Following.dates-exist c
+  unfolding exists dateOf
+  dates-exist = Walk.dates-exist (rowOf c) chain start
 
   pub next-date : (z : ℤ) → next c (dateOf c z) ≡ dateOf c (sucℤ z)
-  next-date = Following.next-date c
+  unfolding next dateOf
+  next-date = Walk.next-date (rowOf c) chain start
 
   -- of two day numbers the less has the earlier date, and the other way round
   pub order : (z w : ℤ) → earlier (dateOf c z) (dateOf c w) ≡ ltZ z w
-  order = Ordered.order c
+  unfolding dateOf
+  order = Walk.order (rowOf c) chain start
 
   -- no two day numbers share a date
   pub one-day : (z w : ℤ) → dateOf c z ≡ dateOf c w → z ≡ w
-  one-day = Ordered.one-day c
+  one-day = Numbering.one-day c
 
   -- the years -9999 to 9999 are those of the day numbers of an interval
   pub range : (z : ℤ) → inYears (dateOf c z .year) ≡ (leZ (lowDay c) z && leZ z (highDay c))
@@ -73,12 +89,10 @@ module _ (c : Calendar) where
   -- there and back: a date of those years that exists is the date of its day number, and a day number is that of its date
   pub date-of-number : (x : Date) → inYears (x .year) ≡ true → exists c x ≡ true → dateOf c (dayNumber c x) ≡ x
   date-of-number x h g =
-      let v = valid-of c x g in
-      let y = count-of (hasYearZero c) (x .year) h (valid-year c x v) in
+      let y = count-of (hasYearZero c) (x .year) h (valid-year c x (valid-of c x g)) in
       let e : x ≡ date (yearAt (hasYearZero c) (y .count)) (x .month) (x .day) = date-eq (sym (y .is)) refl refl in
-      let o = monthStart (kind c (yearAt (hasYearZero c) (y .count))) (x .month - 1) + (x .day - 1) in
-      let z = subℕ (dayAt c (y .count) o) (epochDay c) in
-      let f : dateOf c z ≡ x = numbered c (y .count) (x .month) (x .day) o (subst (Valid c) e v) refl ∙ sym e in
+      let z = subℕ (count (ruleAt (counts c) (y .count) (x .month) (x .day)) (dayPlace (y .count) (x .month) (x .day))) (epochDay c + lagAt (counts c) (y .count) (x .month) (x .day)) in
+      let f : dateOf c z ≡ x = numbered c (y .count) (x .month) (x .day) (ap (exists c) (sym e) ∙ g) ∙ sym e in
       ap (dateOf c) (number-is c x z h f) ∙ f
 
   pub number-of-date : (z : ℤ) → inYears (dateOf c z .year) ≡ true → dayNumber c (dateOf c z) ≡ z
@@ -94,7 +108,7 @@ pub answered : (c : Calendar) (x : Date) (z : ℤ) → DayAnswer.Is z ≡ dayAns
 unfolding dayAnswer
 answered c x z = go (inYears (x .year)) (exists c x) refl refl
   where
-    go : (a b : Bool) → inYears (x .year) ≡ a → exists c x ≡ b → DayAnswer.Is z ≡ pickDayAnswer a (pickDayAnswer b (DayAnswer.Is (dayNumber c x)) (DayAnswer.Refused NoSuchDate)) (DayAnswer.Refused OutOfRange) → Numbered c x z
+    go : (a b : Bool) → inYears (x .year) ≡ a → exists c x ≡ b → DayAnswer.Is z ≡ cond a (cond b (DayAnswer.Is (dayNumber c x)) (DayAnswer.Refused NoSuchDate)) (DayAnswer.Refused OutOfRange) → Numbered c x z
     go true true e f h = let n : z ≡ dayNumber c x = (cc) in record { inside = e; there = f; is = ap (dateOf c) n ∙ date-of-number c x e f }
     go true false e f h = absurd (let y : _≡_ {A = ℕ} 0 1 = (cc) in omega arith)
     go false b e f h = absurd (let y : _≡_ {A = ℕ} 0 1 = (cc) in omega arith)

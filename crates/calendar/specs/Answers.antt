@@ -1,5 +1,5 @@
 -- The answers of the two public calls: the date of a day number, and the day number of a date.
-use mathlib.Core.Bool.{Bool, true, false, cond}
+use mathlib.Core.Bool.{cond}
 use Prim.Native.Nat.{ℕ, zero, suc}
 use lib.IntN.{ℤ, negsuc, sucℤ}
 use Rattle.refusal.specs.declared.Refusal.the-variants.{NoSuchDate, OutOfRange}
@@ -10,13 +10,9 @@ use Rattle.calendar.specs.declared.Date.{Date}
 use Rattle.calendar.specs.declared.DateAnswer.{DateAnswer}
 use Rattle.calendar.specs.declared.DayAnswer.{DayAnswer}
 
-abbrev pub pickDateAnswer : Bool → DateAnswer → DateAnswer → DateAnswer
-pickDateAnswer true a b = a
-pickDateAnswer false a b = b
-
 -- the date of day number n; refused where its year lies past -9999 to 9999
 unfoldable pub dateAnswer : Calendar → ℤ → DateAnswer
-dateAnswer c n = pickDateAnswer (inYears (dateOf c n .year)) (DateAnswer.Is (dateOf c n)) (DateAnswer.Refused OutOfRange)
+dateAnswer c n = cond (inYears (dateOf c n .year)) (DateAnswer.Is (dateOf c n)) (DateAnswer.Refused OutOfRange)
 
 -- the first of the k day numbers from z on whose date is x, or the number after them
 unfoldable pub numberFrom : Calendar → Date → ℕ → ℤ → ℤ
@@ -27,13 +23,9 @@ numberFrom c x (suc k) z = cond (sameDate (dateOf c z) x) z (numberFrom c x k (s
 unfoldable pub dayNumber : Calendar → Date → ℤ
 dayNumber c x = numberFrom c x 10000000 (negsuc 4999999)
 
-abbrev pub pickDayAnswer : Bool → DayAnswer → DayAnswer → DayAnswer
-pickDayAnswer true a b = a
-pickDayAnswer false a b = b
-
 -- the day number of a date; refused for its year first, then where the date does not exist
 unfoldable pub dayAnswer : Calendar → Date → DayAnswer
 dayAnswer c x =
-    pickDayAnswer (inYears (x .year))
-    (pickDayAnswer (exists c x) (DayAnswer.Is (dayNumber c x)) (DayAnswer.Refused NoSuchDate))
+    cond (inYears (x .year))
+    (cond (exists c x) (DayAnswer.Is (dayNumber c x)) (DayAnswer.Refused NoSuchDate))
     (DayAnswer.Refused OutOfRange)

@@ -1,154 +1,60 @@
 -- The six calendars by their next-day rule: document 01, "Calendars". All else that is said of dates rests on `next`.
--- An integer is `pos n`, the number n, or `negsuc n`, the number -(n + 1). Months and days of a date count from 1.
-use mathlib.Core.Bool.{Bool, true, false, not, _&&_, _||_, cond}
-use mathlib.Core.List.{List, [], _∷_}
-use Prim.Native.Nat.{ℕ, zero, suc, _+_, _-_, _%_}
-use lib.Dec.{leb, ltb, eqb}
-use lib.ListN.{getD}
-use lib.IntN.{ℤ, pos, negsuc, sucℤ, predℤ, natAbs}
+-- A calendar is a row: two plain calendars, of one of which it keeps the days through `last`, and of the other those from `first` on.
+use mathlib.Core.Bool.{Bool, true, false, not, _&&_, cond}
+use Prim.Native.Nat.{ℕ, zero, suc}
+use lib.IntN.{ℤ, pos, negsuc}
 use lib.Signed.{leZ}
+use Rattle.calendar.specs.Plain.{Plain, plain, nextYear, prevYear, dayAfter, dayBefore, hasDay}
+pub use Rattle.calendar.specs.Plain.{date}
+use Rattle.calendar.specs.Order.{earlier, sameDate}
 use Rattle.calendar.specs.declared.Calendar.{Calendar}
 use Rattle.calendar.specs.declared.Calendar.the-variants.{Standard, ProlepticGregorian, Julian, NoLeap, AllLeap, Day360}
 use Rattle.calendar.specs.declared.Date.{Date}
+use Rattle.calendar.specs.declared.rule.Rule.{Rule}
 
--- ---- what sets the standard calendar apart
+pub record CalendarRow : Type 0 where
+  pub zero : Bool
+  pub early : Rule
+  pub late : Rule
+  pub last : Date
+  pub first : Date
 
-abbrev pub isStandard : Calendar → Bool
-isStandard Standard = true
-isStandard ProlepticGregorian = false
-isStandard Julian = false
-isStandard NoLeap = false
-isStandard AllLeap = false
-isStandard Day360 = false
+abbrev pub earlyPart : CalendarRow → Plain
+earlyPart r = plain (r .early) (r .zero)
 
-abbrev pub hasYearZero : Calendar → Bool
-hasYearZero Standard = false
-hasYearZero ProlepticGregorian = true
-hasYearZero Julian = true
-hasYearZero NoLeap = true
-hasYearZero AllLeap = true
-hasYearZero Day360 = true
+abbrev pub latePart : CalendarRow → Plain
+latePart r = plain (r .late) (r .zero)
 
--- ---- months
+-- ---- the rows
 
--- month lengths by kind of year: 0 common, 1 leap, 2 of 360 days
-abbrev pub lengths : List (List ℕ)
-lengths =
-    (31 ∷ 28 ∷ 31 ∷ 30 ∷ 31 ∷ 30 ∷ 31 ∷ 31 ∷ 30 ∷ 31 ∷ 30 ∷ 31 ∷ [])
-    ∷ (31 ∷ 29 ∷ 31 ∷ 30 ∷ 31 ∷ 30 ∷ 31 ∷ 31 ∷ 30 ∷ 31 ∷ 30 ∷ 31 ∷ [])
-    ∷ (30 ∷ 30 ∷ 30 ∷ 30 ∷ 30 ∷ 30 ∷ 30 ∷ 30 ∷ 30 ∷ 30 ∷ 30 ∷ 30 ∷ [])
-    ∷ []
+-- a plain calendar, joined with itself at two days that follow each other in each of them
+abbrev pub plainRow : Rule → Bool → CalendarRow
+plainRow r z = record { zero = z; early = r; late = r; last = date (pos 1582) 10 14; first = date (pos 1582) 10 15 }
 
--- the length of the month at place m of the row, from 0, in a year of kind k
-unfoldable pub monthDays : ℕ → ℕ → ℕ
-monthDays k m = getD (getD lengths k []) m 0
+-- `standard` is Julian through 1582-10-04; the next day is 1582-10-15, Gregorian. It has no year 0, all others have one
+abbrev pub rowOf : Calendar → CalendarRow
+rowOf Standard = record { zero = false; early = Rule.Julian; late = Rule.Gregorian; last = date (pos 1582) 10 4; first = date (pos 1582) 10 15 }
+rowOf ProlepticGregorian = plainRow Rule.Gregorian true
+rowOf Julian = plainRow Rule.Julian true
+rowOf NoLeap = plainRow Rule.Common true
+rowOf AllLeap = plainRow Rule.Leap true
+rowOf Day360 = plainRow Rule.Thirty true
 
--- ---- leap years; k divides a year where it divides its absolute value
+-- ---- the next day, and the day before, of a row
 
-abbrev pub divides : ℕ → ℤ → Bool
-divides k y = eqb (natAbs y % k) 0
+-- `first` comes after `last`; else the next day of the part that the date belongs to by its order
+unfoldable pub nextBy : CalendarRow → Date → Date
+nextBy r x = cond (sameDate x (r .last)) (r .first) (cond (earlier x (r .first)) (dayAfter (earlyPart r) x) (dayAfter (latePart r) x))
 
-abbrev pub leapGregorian : ℤ → Bool
-leapGregorian y = (divides 4 y && not (divides 100 y)) || divides 400 y
+-- `nextBy` undone
+unfoldable pub prevBy : CalendarRow → Date → Date
+prevBy r x = cond (sameDate x (r .first)) (r .last) (cond (earlier x (r .first)) (dayBefore (earlyPart r) x) (dayBefore (latePart r) x))
 
-abbrev pub leapJulian : ℤ → Bool
-leapJulian y = divides 4 y
+-- a date exists where its part has it, and none after `last` and before `first`
+unfoldable pub existsBy : CalendarRow → Date → Bool
+existsBy r x = cond (earlier x (r .first)) (hasDay (earlyPart r) x && not (earlier (r .last) x)) (hasDay (latePart r) x)
 
--- in a calendar without a year 0, year -y counts as 1 - y in the leap rule
-abbrev pub counted : Bool → ℤ → ℤ
-counted true y = y
-counted false (pos n) = pos n
-counted false (negsuc n) = sucℤ (negsuc n)
-
-abbrev pub ofLeap : Bool → ℕ
-ofLeap b = cond b 1 0
-
--- the kind of a year. Year 1582 of `standard` is common by both rules, so one kind serves both of its parts
-unfoldable pub kind : Calendar → ℤ → ℕ
-kind Standard y = cond (leZ y (pos 1582)) (ofLeap (leapJulian (counted (hasYearZero Standard) y))) (ofLeap (leapGregorian y))
-kind ProlepticGregorian y = ofLeap (leapGregorian y)
-kind Julian y = ofLeap (leapJulian (counted (hasYearZero Julian) y))
-kind NoLeap y = 0
-kind AllLeap y = 1
-kind Day360 y = 2
-
--- the last day of month m of year y
-abbrev pub lastDay : Calendar → ℤ → ℕ → ℕ
-lastDay c y m = monthDays (kind c y) (m - 1)
-
--- ---- the year after and the year before
-
-abbrev pub skipAfter : ℤ → ℤ
-skipAfter (pos n) = pos (suc n)
-skipAfter (negsuc zero) = pos 1
-skipAfter (negsuc (suc n)) = negsuc n
-
-abbrev pub skipBefore : ℤ → ℤ
-skipBefore (pos zero) = negsuc zero
-skipBefore (pos (suc zero)) = negsuc zero
-skipBefore (pos (suc (suc n))) = pos (suc n)
-skipBefore (negsuc n) = negsuc (suc n)
-
--- without a year 0, year 1 comes after year -1
-unfoldable pub yearAfter : Calendar → ℤ → ℤ
-yearAfter c y = cond (hasYearZero c) (sucℤ y) (skipAfter y)
-
-unfoldable pub yearBefore : Calendar → ℤ → ℤ
-yearBefore c y = cond (hasYearZero c) (predℤ y) (skipBefore y)
-
--- ---- the next day, and the day before
-
-abbrev pub date : ℤ → ℕ → ℕ → Date
-date y m d = record { year = y; month = m; day = d }
-
-abbrev pub pickDate : Bool → Date → Date → Date
-pickDate true a b = a
-pickDate false a b = b
-
-abbrev pub isYear : ℕ → ℤ → Bool
-isYear y (pos n) = eqb n y
-isYear y (negsuc n) = false
-
--- the test for a given date of a positive year
-abbrev pub isDate : ℕ → ℕ → ℕ → Date → Bool
-isDate y m d x = (isYear y (x .year) && eqb (x .month) m) && eqb (x .day) d
-
--- the last Julian day of `standard`, and the first Gregorian one
-abbrev pub isLastJulian : Date → Bool
-isLastJulian x = isDate 1582 10 4 x
-
-abbrev pub isFirstGregorian : Date → Bool
-isFirstGregorian x = isDate 1582 10 15 x
-
-abbrev pub lastJulian : Date
-lastJulian = date (pos 1582) 10 4
-
-abbrev pub firstGregorian : Date
-firstGregorian = date (pos 1582) 10 15
-
--- at the cutover of `standard` the first Gregorian day; else the next day of the month, the first of the next month, or of the next year
-unfoldable pub next : Calendar → Date → Date
-next c x =
-    pickDate (isStandard c && isLastJulian x)
-    firstGregorian
-    (pickDate (ltb (x .day) (lastDay c (x .year) (x .month)))
-    (date (x .year) (x .month) (x .day + 1))
-    (pickDate (ltb (x .month) 12)
-    (date (x .year) (x .month + 1) 1)
-    (date (yearAfter c (x .year)) 1 1)))
-
--- `next` undone
-unfoldable pub prev : Calendar → Date → Date
-prev c x =
-    pickDate (isStandard c && isFirstGregorian x)
-    lastJulian
-    (pickDate (ltb 1 (x .day))
-    (date (x .year) (x .month) (x .day - 1))
-    (pickDate (ltb 1 (x .month))
-    (date (x .year) (x .month - 1) (lastDay c (x .year) (x .month - 1)))
-    (date (yearBefore c (x .year)) 12 (lastDay c (yearBefore c (x .year)) 12))))
-
--- ---- the date of a day number: `next` applied that many times from 1970-01-01, or undone
+-- ---- the date of a day number: the next-day rule applied that many times from 1970-01-01, or undone
 
 abbrev pub epoch : Date
 epoch = date (pos 1970) 1 1
@@ -157,22 +63,32 @@ unfoldable pub times : {A : Type 0} → ℕ → (A → A) → A → A
 times zero f x = x
 times (suc n) f x = f (times n f x)
 
-unfoldable pub dateOf : Calendar → ℤ → Date
-dateOf c (pos n) = times n (next c) epoch
-dateOf c (negsuc n) = times (suc n) (prev c) epoch
+unfoldable pub dateBy : CalendarRow → ℤ → Date
+dateBy r (pos n) = times n (nextBy r) epoch
+dateBy r (negsuc n) = times (suc n) (prevBy r) epoch
 
--- ---- which dates there are
+-- ---- the same of the calendars
 
--- the days dropped at the cutover: 1582-10-05 to 1582-10-14
-abbrev pub dropped : Date → Bool
-dropped x = (isYear 1582 (x .year) && eqb (x .month) 10) && (ltb 4 (x .day) && ltb (x .day) 15)
+unfoldable pub next : Calendar → Date → Date
+next c = nextBy (rowOf c)
 
-abbrev pub missing : Calendar → Date → Bool
-missing c x = (not (hasYearZero c) && isYear 0 (x .year)) || (isStandard c && dropped x)
+unfoldable pub prev : Calendar → Date → Date
+prev c = prevBy (rowOf c)
 
 unfoldable pub exists : Calendar → Date → Bool
-exists c x =
-    ((leb 1 (x .month) && leb (x .month) 12) && (leb 1 (x .day) && leb (x .day) (lastDay c (x .year) (x .month)))) && not (missing c x)
+exists c = existsBy (rowOf c)
+
+unfoldable pub dateOf : Calendar → ℤ → Date
+dateOf c = dateBy (rowOf c)
+
+abbrev pub hasYearZero : Calendar → Bool
+hasYearZero c = rowOf c .zero
+
+unfoldable pub yearAfter : Calendar → ℤ → ℤ
+yearAfter c y = nextYear (hasYearZero c) y
+
+unfoldable pub yearBefore : Calendar → ℤ → ℤ
+yearBefore c y = prevYear (hasYearZero c) y
 
 -- the years that are handed out: -9999 to 9999
 abbrev pub inYears : ℤ → Bool

@@ -1,17 +1,18 @@
 -- Closed forms, which only private functions compute; no promise to a caller rests on them. proofs/ joins them to the next-day rule.
 -- All over natural numbers: year y of a place is counted from year -10000, a month and a day from 0.
-use mathlib.Core.Bool.{Bool, true, false, not, _&&_, _||_, cond}
+use mathlib.Core.Bool.{Bool, false, not, _&&_, _||_, cond}
 use Prim.Native.Nat.{ℕ, zero, suc, _+_, _-_, _*_, _/_, _%_, _<_, _≤_}
 use lib.Dec.{leb, ltb, eqb}
 use lib.IntN.{ℤ, pos, subℕ}
 use mathlib.Core.Path.{_≡_}
-use Rattle.calendar.specs.Calendar.{isStandard, monthDays, ofLeap, date}
+use Rattle.signed.specs.Bias.{lift}
+use Rattle.calendar.specs.Plain.{monthDays, ofLeap, date}
+use Rattle.calendar.specs.Calendar.{CalendarRow, rowOf}
 use Rattle.calendar.specs.declared.Calendar.{Calendar}
-use Rattle.calendar.specs.declared.Calendar.the-variants.{Standard, ProlepticGregorian, Julian, NoLeap, AllLeap, Day360}
 use Rattle.calendar.specs.declared.Date.{Date}
 use Rattle.calendar.specs.declared.rule.Rule.{Rule}
-use Rattle.calendar.specs.declared.rule.Rule.the-variants.{Gregorian, FourYearly, Common, Leap, Thirty}
 use Rattle.calendar.specs.declared.place.Place.{Place}
+use Rattle.calendar.specs.declared.row.CountedRow.{CountedRow}
 use Rattle.calendar.specs.declared.YearCount.{YearCount}
 
 -- ---- years
@@ -20,28 +21,28 @@ abbrev pub leap : ℕ → Bool
 leap y = (eqb (y % 4) 0 && not (eqb (y % 100) 0)) || eqb (y % 400) 0
 
 -- the kind of year y
-unfoldable pub row : Rule → ℕ → ℕ
-row Gregorian y = ofLeap (leap y)
-row FourYearly y = ofLeap (eqb (y % 4) 0)
-row Common y = 0
-row Leap y = 1
-row Thirty y = 2
+unfoldable pub kindAt : Rule → ℕ → ℕ
+kindAt Rule.Gregorian y = ofLeap (leap y)
+kindAt Rule.Julian y = ofLeap (eqb (y % 4) 0)
+kindAt Rule.Common y = 0
+kindAt Rule.Leap y = 1
+kindAt Rule.Thirty y = 2
 
 -- the days before year y
 unfoldable pub yearStart : Rule → ℕ → ℕ
-yearStart Gregorian y = 365 * y + (y + 3) / 4 + (y + 399) / 400 - (y + 99) / 100
-yearStart FourYearly y = 365 * y + (y + 3) / 4
-yearStart Common y = 365 * y
-yearStart Leap y = 366 * y
-yearStart Thirty y = 360 * y
+yearStart Rule.Gregorian y = 365 * y + (y + 3) / 4 + (y + 399) / 400 - (y + 99) / 100
+yearStart Rule.Julian y = 365 * y + (y + 3) / 4
+yearStart Rule.Common y = 365 * y
+yearStart Rule.Leap y = 366 * y
+yearStart Rule.Thirty y = 360 * y
 
 -- the year of day n, or the year after it
 abbrev pub guess : Rule → ℕ → ℕ
-guess Gregorian n = (n + 1) * 400 / 146097
-guess FourYearly n = n * 4 / 1461
-guess Common n = n / 365
-guess Leap n = n / 366
-guess Thirty n = n / 360
+guess Rule.Gregorian n = (n + 1) * 400 / 146097
+guess Rule.Julian n = n * 4 / 1461
+guess Rule.Common n = n / 365
+guess Rule.Leap n = n / 366
+guess Rule.Thirty n = n / 360
 
 -- ---- months
 
@@ -55,8 +56,8 @@ abbrev pub monthStartOf : ℕ → ℕ → ℕ
 monthStartOf k m = cond (eqb k 2) (30 * m) ((367 * m + 5) / 12 - cond (ltb m 2) 0 (2 - k))
 
 -- the month of day d of a year of kind k
-abbrev pub monthOf : ℕ → ℕ → ℕ
-monthOf k d = cond (eqb k 2) (d / 30) ((12 * cond (ltb d (59 + k)) d (d + 2 - k) + 6) / 367)
+abbrev pub monthHolding : ℕ → ℕ → ℕ
+monthHolding k d = cond (eqb k 2) (d / 30) ((12 * cond (ltb d (59 + k)) d (d + 2 - k) + 6) / 367)
 
 -- day d of a year of kind k lies in month m
 pub record Held (k m d : ℕ) : Type 0 where
@@ -66,17 +67,17 @@ pub record Held (k m d : ℕ) : Type 0 where
 
 -- ---- places
 
-abbrev pub place : ℕ → ℕ → ℕ → Place
-place y m i = record { y = y; m = m; i = i }
+abbrev pub placeAt : ℕ → ℕ → ℕ → Place
+placeAt y m i = record { y = y; m = m; i = i }
 
 -- the days before a place
 unfoldable pub count : Rule → Place → ℕ
-count r p = yearStart r (p .y) + monthStart (row r (p .y)) (p .m) + p .i
+count r p = yearStart r (p .y) + monthStart (kindAt r (p .y)) (p .m) + p .i
 
 -- a place that is a day
 pub record Proper (r : Rule) (p : Place) : Type 0 where
   pub month : p .m < 12
-  pub day : p .i < monthDays (row r (p .y)) (p .m)
+  pub day : p .i < monthDays (kindAt r (p .y)) (p .m)
 
 -- p is the place of day n
 pub record Split (r : Rule) (n : ℕ) (p : Place) : Type 0 where
@@ -98,69 +99,89 @@ pub record Labelled (z : Bool) (r : Rule) (n : ℕ) (d : Date) : Type 0 where
   pub split : Split r n at
   pub is : d ≡ label z at
 
--- ---- each calendar's numbers, in days from place 0 0 0 of its rule (of the Julian rule for `standard`)
-
--- 1970-01-01
-abbrev pub epochDay : Calendar → ℕ
-epochDay Standard = 4372030
-epochDay ProlepticGregorian = 4371953
-epochDay Julian = 4372043
-epochDay NoLeap = 4369050
-epochDay AllLeap = 4381020
-epochDay Day360 = 4309200
-
--- the first day of year -9999
-abbrev pub firstDay : Calendar → ℕ
-firstDay Standard = 731
-firstDay ProlepticGregorian = 366
-firstDay Julian = 366
-firstDay NoLeap = 365
-firstDay AllLeap = 366
-firstDay Day360 = 360
-
--- the first day of year 10000
-abbrev pub endDay : Calendar → ℕ
-endDay Standard = 7304927
-endDay ProlepticGregorian = 7304850
-endDay Julian = 7305000
-endDay NoLeap = 7300000
-endDay AllLeap = 7320000
-endDay Day360 = 7200000
-
--- 1582-10-15 of `standard`; from there on its days are those of the Gregorian rule, which has counted 77 days fewer
-abbrev pub cutover : ℕ
-cutover = 4230603
-
-abbrev pub lag : ℕ
-lag = 77
-
--- ---- dates as days
-
--- day d of year y of `standard` is counted by the Gregorian rule: day 277 of 1582 is the fifth of October
-abbrev pub late : ℕ → ℕ → Bool
-late y d = cond (eqb y 11582) (leb 277 d) (ltb 11582 y)
-
-abbrev pub pickRule : Bool → Rule → Rule → Rule
-pickRule true a b = a
-pickRule false a b = b
-
--- the rule that counts day d of year y
-abbrev pub ruleAt : Calendar → ℕ → ℕ → Rule
-ruleAt Standard y d = pickRule (late y d) Gregorian FourYearly
-ruleAt ProlepticGregorian y d = Gregorian
-ruleAt Julian y d = FourYearly
-ruleAt NoLeap y d = Common
-ruleAt AllLeap y d = Leap
-ruleAt Day360 y d = Thirty
-
--- the days by which the rule lags behind the calendar
-abbrev pub lagAt : Calendar → ℕ → ℕ → ℕ
-lagAt c y d = cond (isStandard c && late y d) lag 0
-
-abbrev pub dayAt : Calendar → ℕ → ℕ → ℕ
-dayAt c y d = yearStart (ruleAt c y d) y + d + lagAt c y d
-
 -- the count from -10000 of a year, where the calendar has the year
 abbrev pub Counted : Bool → ℤ → YearCount → Type 0
 Counted z y (YearCount.Is n) = yearAt z n ≡ y
 Counted z y YearCount.Missing = (z ≡ false) × (y ≡ pos 0)
+
+-- the tests of a date of year y by its month and day, and its place
+
+unfoldable pub hasDayAt : Rule → ℕ → ℕ → ℕ → Bool
+hasDayAt r y m d = (leb 1 m && leb m 12) && (leb 1 d && leb d (monthDays (kindAt r y) (m - 1)))
+
+abbrev pub dayPlace : ℕ → ℕ → ℕ → Place
+dayPlace y m d = placeAt y (m - 1) (d - 1)
+
+-- the date comes before a place, as it is written
+unfoldable pub beforePlace : ℕ → ℕ → ℕ → Place → Bool
+beforePlace y m d p = ltb y (p .y) || (eqb y (p .y) && (ltb m (p .m + 1) || (eqb m (p .m + 1) && ltb d (p .i + 1))))
+
+-- ---- rows
+
+-- a row whose cutover is counted: the early part ends before the place `until`, which is that after its last day as it is written
+abbrev pub countedRow : CalendarRow → CountedRow
+countedRow r = record { zero = r .zero; early = r .early; late = r .late; until = placeAt (lift (r .last .year) 10000) (r .last .month - 1) (r .last .day); from = dayPlace (lift (r .first .year) 10000) (r .first .month) (r .first .day) }
+
+-- a row whose late part begins on 1582-10-15
+abbrev pub octoberRow : Bool → Rule → Rule → ℕ → CountedRow
+octoberRow z a b i = record { zero = z; early = a; late = b; until = placeAt 11582 9 i; from = placeAt 11582 9 14 }
+
+-- the two parts of a calendar that is not mixed meet at one place
+abbrev pub mixed : CountedRow → Bool
+mixed k = not (eqb (k .until .y) (k .from .y) && (eqb (k .until .m) (k .from .m) && eqb (k .until .i) (k .from .i)))
+
+-- the cutover's day, by the late rule
+unfoldable pub cutoverDay : CountedRow → ℕ
+cutoverDay k = count (k .late) (k .from)
+
+-- the days by which the late rule lags behind the early one
+unfoldable pub lag : CountedRow → ℕ
+lag k = count (k .early) (k .until) - cutoverDay k
+
+-- the first day of the late part; in a calendar that is not mixed that is all of it
+abbrev pub lateFrom : CountedRow → ℕ
+lateFrom k = cond (mixed k) (cutoverDay k) 0
+
+-- year -9999 by its count
+abbrev pub firstYear : Bool → ℕ
+firstYear z = cond z 1 2
+
+-- a date belongs to the early part of a mixed calendar
+abbrev pub isEarly : CountedRow → ℕ → ℕ → ℕ → Bool
+isEarly k y m d = mixed k && beforePlace y m d (k .from)
+
+abbrev pub isDropped : CountedRow → ℕ → ℕ → ℕ → Bool
+isDropped k y m d = isEarly k y m d && not (beforePlace y m d (k .until))
+
+-- the rule of the part that a date belongs to, and the days by which the late rule lags behind it
+abbrev pub ruleAt : CountedRow → ℕ → ℕ → ℕ → Rule
+ruleAt k y m d = cond (isEarly k y m d) (k .early) (k .late)
+
+abbrev pub lagAt : CountedRow → ℕ → ℕ → ℕ → ℕ
+lagAt k y m d = cond (isEarly k y m d) (lag k) 0
+
+-- ---- a calendar's numbers, in days from place 0 0 0 of its late rule
+
+-- 1970-01-01
+unfoldable pub rowEpoch : CountedRow → ℕ
+rowEpoch k = yearStart (k .late) 11970
+
+-- the first day of year -9999
+unfoldable pub rowStart : CountedRow → ℕ
+rowStart k = yearStart (k .early) (firstYear (k .zero)) - lag k
+
+-- the first day of year 10000
+unfoldable pub rowEnd : CountedRow → ℕ
+rowEnd k = yearStart (k .late) 20000
+
+abbrev pub counts : Calendar → CountedRow
+counts c = countedRow (rowOf c)
+
+abbrev pub epochDay : Calendar → ℕ
+epochDay c = rowEpoch (counts c)
+
+abbrev pub firstDay : Calendar → ℕ
+firstDay c = rowStart (counts c)
+
+abbrev pub endDay : Calendar → ℕ
+endDay c = rowEnd (counts c)

@@ -1,4 +1,4 @@
-// From a day, counted from the first day of year -10000 (-10001 in `standard`), to its date.
+// From a day, counted from the first place of the calendar's late rule, to its date.
 ghost use mathlib.Core.Path.{_≡_};
 ghost use Prim.Native.Nat.{_<_, _^_};
 ghost use lib.IntN.{subℕ};
@@ -7,6 +7,7 @@ ghost use Rattle.calendar.specs.Closed.{yearAt, Labelled, epochDay};
 use crate::Calendar;
 use crate::Date;
 use crate::place;
+use crate::row;
 use crate::rule::Rule;
 
 // The name of year y, in a calendar with or without a year 0.
@@ -41,17 +42,11 @@ pub fn date_at(c: Calendar, n: u64) -> Date
     requires { ⌜ n < 2 ^ 30 ⌝ }
     ensures { λ d. ⌜ d ≡ dateOf c (subℕ n (epochDay c)) ⌝ }
 {
-    match c {
-        Calendar::Standard => {
-            if n < 4230603 {
-                return date_by_rule(false, Rule::FourYearly, n);
-            }
-            return date_by_rule(false, Rule::Gregorian, n - 77);
-        }
-        Calendar::ProlepticGregorian => return date_by_rule(true, Rule::Gregorian, n),
-        Calendar::Julian => return date_by_rule(true, Rule::FourYearly, n),
-        Calendar::NoLeap => return date_by_rule(true, Rule::Common, n),
-        Calendar::AllLeap => return date_by_rule(true, Rule::Leap, n),
-        Calendar::Day360 => return date_by_rule(true, Rule::Thirty, n),
+    let r = row::row_of(c);
+    if n < row::late_from(c) {
+        let early = r.early;
+        return date_by_rule(r.zero, early, n + row::lag_of(c));
     }
+    let late = r.late;
+    return date_by_rule(r.zero, late, n);
 }

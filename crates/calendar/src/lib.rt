@@ -6,13 +6,14 @@ ghost use Prim.Native.Nat.{_-_, _≤_};
 ghost use Rattle.signed.specs.Bias.{lower};
 ghost use Rattle.calendar.specs.Answers.{dateAnswer, dayAnswer};
 ghost use Rattle.calendar.specs.Calendar.{hasYearZero, inYears, dateOf};
-ghost use Rattle.calendar.specs.Closed.{epochDay, firstDay, endDay, Counted};
+ghost use Rattle.calendar.specs.Closed.{epochDay, firstYear, firstDay, endDay, Counted};
 use refusal::Refusal;
 
 pub mod civil;
 mod month;
 pub mod ordinal;
 mod place;
+mod row;
 mod rule;
 
 pub enum Calendar {
@@ -44,60 +45,48 @@ pub enum DayAnswer {
     Refused(Refusal),
 }
 
-// 2^63 less the days from place 0 0 0 to 1970-01-01.
-fn origin(c: Calendar) -> u64
-    ensures { λ r. ⌜ r ≡ 9223372036854775808 - epochDay c ⌝ }
+// 1970-01-01, counted from the first place of the calendar's late rule, as the two days after it.
+pub fn epoch_day(c: Calendar) -> u64
+    ensures { λ n. ⌜ n ≡ epochDay c ⌝ }
 {
-    match c {
-        Calendar::Standard => return 0x8000_0000_0000_0000 - 4372030,
-        Calendar::ProlepticGregorian => return 0x8000_0000_0000_0000 - 4371953,
-        Calendar::Julian => return 0x8000_0000_0000_0000 - 4372043,
-        Calendar::NoLeap => return 0x8000_0000_0000_0000 - 4369050,
-        Calendar::AllLeap => return 0x8000_0000_0000_0000 - 4381020,
-        Calendar::Day360 => return 0x8000_0000_0000_0000 - 4309200,
-    }
+    let r = row::row_of(c);
+    let late = r.late;
+    rule::year_start(late, 11970)
 }
 
-// The days from place 0 0 0 to 1970-01-01.
-pub fn epoch_day(c: Calendar) -> u64
-    ensures { λ r. ⌜ r ≡ epochDay c ⌝ }
+// Year -9999, counted from -10000.
+fn first_year(zero: bool) -> u64
+    ensures { λ y. ⌜ y ≡ firstYear zero ⌝ }
 {
-    match c {
-        Calendar::Standard => return 4372030,
-        Calendar::ProlepticGregorian => return 4371953,
-        Calendar::Julian => return 4372043,
-        Calendar::NoLeap => return 4369050,
-        Calendar::AllLeap => return 4381020,
-        Calendar::Day360 => return 4309200,
+    if zero {
+        return 1;
     }
+    return 2;
 }
 
 // The first day of year -9999.
 pub fn first_day(c: Calendar) -> u64
-    ensures { λ r. ⌜ r ≡ firstDay c ⌝ }
+    ensures { λ n. ⌜ n ≡ firstDay c ⌝ }
 {
-    match c {
-        Calendar::Standard => return 731,
-        Calendar::ProlepticGregorian => return 366,
-        Calendar::Julian => return 366,
-        Calendar::NoLeap => return 365,
-        Calendar::AllLeap => return 366,
-        Calendar::Day360 => return 360,
-    }
+    let r = row::row_of(c);
+    let early = r.early;
+    rule::year_start(early, first_year(r.zero)) - row::lag_of(c)
 }
 
 // The first day of year 10000.
 pub fn end_day(c: Calendar) -> u64
-    ensures { λ r. ⌜ r ≡ endDay c ⌝ }
+    ensures { λ n. ⌜ n ≡ endDay c ⌝ }
 {
-    match c {
-        Calendar::Standard => return 7304927,
-        Calendar::ProlepticGregorian => return 7304850,
-        Calendar::Julian => return 7305000,
-        Calendar::NoLeap => return 7300000,
-        Calendar::AllLeap => return 7320000,
-        Calendar::Day360 => return 7200000,
-    }
+    let r = row::row_of(c);
+    let late = r.late;
+    rule::year_start(late, 20000)
+}
+
+// 2^63 less the days before 1970-01-01.
+fn origin(c: Calendar) -> u64
+    ensures { λ n. ⌜ n ≡ 9223372036854775808 - epochDay c ⌝ }
+{
+    0x8000_0000_0000_0000 - epoch_day(c)
 }
 
 // Whether the date of the day number k - 2^63 lies in the years -9999 to 9999.
@@ -147,14 +136,8 @@ pub fn date_of_day(c: Calendar, n: i64) -> DateAnswer
 pub fn has_year_zero(c: Calendar) -> bool
     ensures { λ r. ⌜ r ≡ hasYearZero c ⌝ }
 {
-    match c {
-        Calendar::Standard => return false,
-        Calendar::ProlepticGregorian => return true,
-        Calendar::Julian => return true,
-        Calendar::NoLeap => return true,
-        Calendar::AllLeap => return true,
-        Calendar::Day360 => return true,
-    }
+    let r = row::row_of(c);
+    r.zero
 }
 
 // A year as a count from -10000, or that the calendar has no such year.

@@ -3,7 +3,7 @@ ghost use mathlib.Core.Path.{_≡_};
 ghost use mathlib.Core.Bool.{cond};
 ghost use Prim.Native.Nat.{_+_, _-_, _<_};
 ghost use lib.Dec.{ltb};
-ghost use Rattle.calendar.specs.Calendar.{monthDays};
+ghost use Rattle.calendar.specs.Plain.{monthDays};
 ghost use Rattle.calendar.specs.Closed.{monthStart, Held};
 
 const LENGTHS: [[u8; 12]; 3] = [

@@ -2,19 +2,19 @@
 // leaves the same remainders as its count.
 ghost use mathlib.Core.Path.{_≡_};
 ghost use Prim.Native.Nat.{_+_, _≤_, _<_, _^_};
-ghost use Rattle.calendar.specs.Closed.{row, yearStart, guess};
+ghost use Rattle.calendar.specs.Closed.{kindAt, yearStart, guess};
 
 pub enum Rule {
     Gregorian,
-    FourYearly,
+    Julian,
     Common,
     Leap,
     Thirty,
 }
 
-// The kind of year y: a row of the table of month lengths.
+// The kind of year y: a line of the table of month lengths.
 pub fn kind_of_year(r: Rule, y: u64) -> usize
-    ensures { λ k. ⌜ k ≡ row r y ⌝ }
+    ensures { λ k. ⌜ k ≡ kindAt r y ⌝ }
 {
     match r {
         Rule::Gregorian => {
@@ -29,7 +29,7 @@ pub fn kind_of_year(r: Rule, y: u64) -> usize
             }
             return 0;
         }
-        Rule::FourYearly => {
+        Rule::Julian => {
             if y % 4 == 0 {
                 return 1;
             }
@@ -48,7 +48,7 @@ pub fn year_start(r: Rule, y: u64) -> u64
 {
     match r {
         Rule::Gregorian => return 365 * y + (y + 3) / 4 + (y + 399) / 400 - (y + 99) / 100,
-        Rule::FourYearly => return 365 * y + (y + 3) / 4,
+        Rule::Julian => return 365 * y + (y + 3) / 4,
         Rule::Common => return 365 * y,
         Rule::Leap => return 366 * y,
         Rule::Thirty => return 360 * y,
@@ -62,7 +62,7 @@ fn year_near(r: Rule, n: u64) -> u64
 {
     match r {
         Rule::Gregorian => return (n + 1) * 400 / 146097,
-        Rule::FourYearly => return n * 4 / 1461,
+        Rule::Julian => return n * 4 / 1461,
         Rule::Common => return n / 365,
         Rule::Leap => return n / 366,
         Rule::Thirty => return n / 360,

@@ -1,4 +1,4 @@
--- From a double's bit pattern, and what `scaled_size` makes of it, to its nearest displacement on an axis of P microseconds to the period.
+-- From a double's bit pattern, and the displacement that it stands for, to its nearest displacement on an axis of P microseconds to the period.
 use mathlib.Core.Path.{_≡_, sym, ap, _∙_, subst}
 use mathlib.Core.Bool.{Bool, true, false, not}
 use Prim.Native.Nat.{ℕ, zero, suc, _*_, _^_, _≤_, _<_}
@@ -12,14 +12,13 @@ use lib.Ieee.{Float, nan, inf, fin, binary64, up, down, fits, isNan}
 use lib.Ieee.Exact.{HasValue}
 use lib.Ieee.Fits.{down-pos}
 use lib.Ieee.Nearest.{closest, closest-same}
-use Rattle.rounding.specs.declared.Rounded.{Rounded}
-use Rattle.rounding.specs.Rounding.{isExact, RoundedTo}
+use Rattle.rounding.specs.Rounding.{isExact}
 use Rattle.rounding.proofs.Closest.{same-exact}
 use Rattle.double.specs.declared.Pattern.{Pattern}
 use Rattle.double.specs.declared.Displacement.{Displacement}
 use Rattle.double.specs.Nearest.{withSign}
 use Rattle.double.specs.Displacement.{DisplacementOf, IsSmall, IsLarge, IsNotFinite}
-use Rattle.double.specs.Fields.{patternOf, fieldSize}
+use Rattle.double.specs.Fields.{patternOf, Displaced}
 use Rattle.double.proofs.Bits.{signOf, fieldOf, sizeOf, finite, value, not-finite}
 
 -- a size with its sign is no larger
@@ -76,9 +75,8 @@ module _ (x : Float) (F : T (fits binary64 x)) (P : ℕ) where
     unfolding IsSmall
     small-is g = subst (λ (k : ℕ). k < 2 ^ 60) (at .size) (subst (λ (k : Float). IsSmall P k) (at .is) g)
 
-    pub counted : (p : Pattern) → p ≡ patternOf x → (r : Rounded) → RoundedTo r (fieldSize (p .field) (p .digits) * P) (2 ^ 1074) → (z : ℤ) → z ≡ withSign (p .negative) (r .count) → DisplacementOf (record { count = z; exact = r .exact }) P x
+    pub counted : (p : Pattern) → p ≡ patternOf x → (d : Displacement) → Displaced d p P → DisplacementOf d P x
     unfolding DisplacementOf
-    counted p e r v z q =
-        let w : RoundedTo r (sizeOf x * P) (2 ^ 1074) = subst (λ (k : Pattern). RoundedTo r (fieldSize (k .field) (k .digits) * P) (2 ^ 1074)) e v in
-        subst (λ (k : Float). DisplacementOf (record { count = z; exact = r .exact }) P k) (sym (at .is))
-        (q ∙ (λ i. withSign (e i .negative) ((w .nearest ∙ sym (at .size)) i)), w .exactly ∙ sym (at .exact))
+    counted p e d v =
+        let w : Displaced d (patternOf x) P = subst (λ (k : Pattern). Displaced d k P) e v in
+        subst (λ (k : Float). DisplacementOf d P k) (sym (at .is)) (w .count ∙ ap (withSign (signOf x)) (sym (at .size)), w .exact ∙ sym (at .exact))

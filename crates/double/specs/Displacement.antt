@@ -34,10 +34,10 @@ IsNotFinite nan = Unit {0}
 IsNotFinite (inf s) = Unit {0}
 IsNotFinite (fin s m e) = ⊥
 
-abbrev pub AnswerOf : DisplacementAnswer → ℕ → Float → Type 0
-AnswerOf (Is d) P x = DisplacementOf d P x × (mag (d .count) ≤ 2 ^ 62)
-AnswerOf Large P x = IsLarge P x
-AnswerOf NotFinite P x = IsNotFinite x
+abbrev pub DisplacementAnswerOf : DisplacementAnswer → ℕ → Float → Type 0
+DisplacementAnswerOf (Is d) P x = DisplacementOf d P x × (mag (d .count) ≤ 2 ^ 62)
+DisplacementAnswerOf Large P x = IsLarge P x
+DisplacementAnswerOf NotFinite P x = IsNotFinite x
 
 -- a period of `micros` microseconds as factor / 2 ^ shift
 pub record IsScale (s : Scale) : Type 0 where

@@ -3,6 +3,11 @@ use mathlib.Core.Path.{_≡_}
 use Prim.Native.Nat.{ℕ, zero, suc, _+_, _*_, _/_, _%_, _^_, _≤_}
 use lib.Dec.{leb}
 use lib.Ieee.{Float, binary64, toBits}
+use lib.Ieee.Nearest.{closest}
+use lib.Signed.{mag}
+use Rattle.rounding.specs.Rounding.{isExact}
+use Rattle.double.specs.Nearest.{withSign}
+use Rattle.double.specs.declared.Displacement.{Displacement}
 use Rattle.double.specs.declared.Pattern.{Pattern}
 use Rattle.double.specs.declared.whole.Size.{Size}
 use Rattle.double.specs.declared.whole.Size.the-variants.{Of, Fraction, Large}
@@ -21,6 +26,12 @@ weight (suc x) = x
 
 abbrev pub fieldSize : ℕ → ℕ → ℕ
 fieldSize field t = significand field t * 2 ^ weight field
+
+-- d is the displacement that the pattern p of a finite double stands for
+pub record Displaced (d : Displacement) (p : Pattern) (P : ℕ) : Type 0 where
+  pub count : d .count ≡ withSign (p .negative) (closest (fieldSize (p .field) (p .digits) * P) (2 ^ 1074))
+  pub exact : d .exact ≡ isExact (fieldSize (p .field) (p .digits) * P) (2 ^ 1074)
+  pub small : mag (d .count) ≤ 2 ^ 62
 
 -- r is the fraction a / d where it is whole, and else says that it is none, or large
 unfoldable pub SizeOf : Size → ℕ → ℕ → Type 0

@@ -3,13 +3,14 @@
 // specs/Displacement.antt and on the theorems about it in proofs/Distance.antt and proofs/Order.antt.
 ghost use mathlib.Core.Path.{_≡_};
 ghost use mathlib.Core.Bool.{not};
-ghost use Prim.Native.Nat.{_+_, _*_, _^_, _<_};
+ghost use Prim.Native.Nat.{_+_, _*_, _^_, _≤_, _<_};
 ghost use lib.Dec.{T};
 ghost use lib.Ieee.{isNan};
+ghost use lib.Signed.{mag};
 ghost use Rattle.rounding.specs.Rounding.{RoundedTo};
 ghost use Rattle.double.specs.Nearest.{withSign};
-ghost use Rattle.double.specs.Displacement.{IsScale, IsSmall, DisplacementOf, AnswerOf};
-ghost use Rattle.double.specs.Fields.{patternOf, fieldSize};
+ghost use Rattle.double.specs.Displacement.{IsScale, IsSmall, DisplacementOf, DisplacementAnswerOf};
+ghost use Rattle.double.specs.Fields.{patternOf, fieldSize, Displaced};
 use rounding::Rounded;
 
 pub mod whole;
@@ -95,13 +96,12 @@ pub fn signed_size(negative: bool, n: u64) -> i64
     }
 }
 
-// The nearest displacement of a finite double whose size is known to be less than 2^60: no test of it is left.
-pub fn small_displacement(scale: Scale, x: f64) -> Displacement
+// The nearest displacement of a finite double that is not too large for a scale, by its pattern.
+fn displaced(p: Pattern, scale: Scale) -> Displacement
     requires scaled { ⌜ IsScale scale ⌝ }
-    requires small { ⌜ IsSmall (scale .micros) x ⌝ }
-    ensures { λ d. ⌜ DisplacementOf d (scale .micros) x ⌝ }
+    requires near { ⌜ (p .field < 1021 + scale .shift) × (p .digits < 2 ^ 52) ⌝ }
+    ensures { λ d. ⌜ Displaced d p (scale .micros) ⌝ }
 {
-    let p = pattern_of(x);
     let r = scaled_size(p.field, p.digits, scale);
     Displacement {
         count: signed_size(p.negative, r.count),
@@ -109,10 +109,19 @@ pub fn small_displacement(scale: Scale, x: f64) -> Displacement
     }
 }
 
+// The nearest displacement of a finite double whose size is known to be less than 2^60: no test of it is left.
+pub fn small_displacement(scale: Scale, x: f64) -> Displacement
+    requires scaled { ⌜ IsScale scale ⌝ }
+    requires small { ⌜ IsSmall (scale .micros) x ⌝ }
+    ensures { λ d. ⌜ DisplacementOf d (scale .micros) x × (mag (d .count) ≤ 2 ^ 62) ⌝ }
+{
+    displaced(pattern_of(x), scale)
+}
+
 // The nearest displacement of any double. A field of all ones is an infinity's.
 pub fn displacement_of(scale: Scale, x: f64) -> DisplacementAnswer
     requires { ⌜ IsScale scale ⌝ }
-    ensures { λ a. ⌜ AnswerOf a (scale .micros) x ⌝ }
+    ensures { λ a. ⌜ DisplacementAnswerOf a (scale .micros) x ⌝ }
 {
     if x != x {
         return DisplacementAnswer::NotFinite;
@@ -124,9 +133,5 @@ pub fn displacement_of(scale: Scale, x: f64) -> DisplacementAnswer
     if 1021 + scale.shift <= p.field {
         return DisplacementAnswer::Large;
     }
-    let r = scaled_size(p.field, p.digits, scale);
-    DisplacementAnswer::Is(Displacement {
-        count: signed_size(p.negative, r.count),
-        exact: r.exact,
-    })
+    DisplacementAnswer::Is(displaced(p, scale))
 }

@@ -1,12 +1,10 @@
 -- From the nearest displacement of a double, as crate `double` gives it, to its reading.
 use mathlib.Core.Path.{_≡_, refl, sym, _∙_, subst}
 use mathlib.Core.Bool.{Bool, true, false, false≢true}
-use Prim.Native.Nat.{ℕ, _≤_, _<_, _^_}
-use native.Mathlib.Omega.{arith}
+use Prim.Native.Nat.{ℕ, _<_, _^_}
 use native.Mathlib.Nat.{le-trans, le-of-eq}
 use lib.Dec.{eqb}
 use lib.IntN.{ℤ, _+ℤ_}
-use lib.Signed.{mag}
 use lib.Ieee.{Float, nan, inf, fin}
 use Rattle.refusal.specs.declared.Refusal.the-variants.{OutOfRange, NotFinite}
 use Rattle.calendar.specs.declared.Calendar.{Calendar}
@@ -19,16 +17,9 @@ use Rattle.double.specs.declared.Displacement.{Displacement}
 use Rattle.double.specs.Nearest.{distance, nearestSize, nearestDisplacement, nearestCount}
 use Rattle.double.specs.Displacement.{DisplacementOf, IsSmall, IsLarge, IsNotFinite}
 use Rattle.double.proofs.Distance.{count-exact}
-use Rattle.double.proofs.Values.{signed-le}
 use Rattle.fixed_axis.specs.Fixed.{readingAt, readDouble}
 use Rattle.fixed_axis.proofs.Readings.{Read, reading-of, inside, settled}
 use Rattle.fixed_axis.proofs.Displacements.{signed-size, inner-size, too-far}
-
-pub small-count : (P : ℕ) (d : Displacement) (x : Float) → IsSmall P x → DisplacementOf d P x → mag (d .count) ≤ 2 ^ 62
-unfolding IsSmall DisplacementOf
-small-count P d nan h v = absurd h
-small-count P d (inf s) h v = absurd h
-small-count P d (fin s m e) h v = subst (λ (z : ℤ). mag z ≤ 2 ^ 62) (sym (v .0)) (omega (arith, signed-le s (nearestSize P m e)))
 
 module _ (c : Calendar) (p : Period) (R : ℤ) where
   pub displaced : (d : Displacement) (x : Float) → DisplacementOf d (lengthOf p) x → readingAt c (R +ℤ d .count) (d .exact) ≡ readDouble c p R x

@@ -1,4 +1,3 @@
-pub mod Sums
 pub mod Periods
 pub mod Readings
 pub mod Displacements

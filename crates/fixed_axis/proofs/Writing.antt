@@ -1,19 +1,35 @@
 -- A displacement in periods, in natural numbers: the reference r and the instant k are raised by 2^63, P is the period.
-use mathlib.Core.Path.{_≡_, refl, ap, _∙_}
+use mathlib.Core.Path.{_≡_, refl, sym, ap, _∙_}
 use mathlib.Core.Bool.{Bool, true, false, cond}
 use Prim.Native.Nat.{ℕ, suc, _+_, _-_, _*_, _/_, _%_, _<_, _≤_}
 use native.Mathlib.Omega.{arith}
 use native.Mathlib.Nat.{le-trans, mul-le-mul-left, div-mul-le-self}
 use lib.Dec.{eqb, ltb}
-use lib.IntN.{ℤ, pos, negℤ, _-ℤ_}
+use lib.IntN.{ℤ, pos, negsuc, negℤ, subℕ, _+ℤ_, _-ℤ_}
 use borrow.Author.Tests.{ltb-true, ltb-false}
 use Rattle.refusal.specs.declared.Refusal.the-variants.{Inexact}
 use Rattle.signed.specs.Bias.{lower}
-use Rattle.signed.proofs.Differences.{sub-low, sub-high}
+use Rattle.signed.proofs.Differences.{by-sign, sub-low, sub-high, same-diff}
+use Rattle.signed.proofs.Integers.{plus-minus}
 use Rattle.double.specs.Nearest.{withSign}
 use Rattle.fixed_axis.specs.Fixed.{inPeriods}
 use Rattle.axis_types.specs.declared.OffsetAnswer.{OffsetAnswer}
-use Rattle.fixed_axis.proofs.Sums.{sub-minus}
+
+-- ---- sums and differences of integers that are differences of natural numbers; `subℕ a b` is a - b
+sub-plus : (a b m d : ℕ) → subℕ a b +ℤ subℕ m d ≡ subℕ (a + m) (b + d)
+sub-plus a b m d =
+    by-sign (λ (z : ℤ). z +ℤ subℕ m d ≡ subℕ (a + m) (b + d)) a b
+    (λ h. by-sign (λ (w : ℤ). negsuc (b - suc a) +ℤ w ≡ subℕ (a + m) (b + d)) m d
+    (λ g. ap negsuc (omega arith) ∙ sym (sub-low (a + m) (b + d) (omega arith)))
+    (λ g. same-diff (m - d) (suc (b - suc a)) (a + m) (b + d) (omega arith)))
+    (λ h. by-sign (λ (w : ℤ). pos (a - b) +ℤ w ≡ subℕ (a + m) (b + d)) m d
+    (λ g. same-diff (a - b) (suc (d - suc m)) (a + m) (b + d) (omega arith))
+    (λ g. ap pos (omega arith) ∙ sym (sub-high (a + m) (b + d) (omega arith))))
+
+sub-minus : (a m b : ℕ) → subℕ a b -ℤ subℕ m b ≡ subℕ a m
+sub-minus a m b = ap (λ (z : ℤ). z -ℤ subℕ m b) (sym (sub-plus m b a m ∙ same-diff (m + a) (b + m) a b (omega arith))) ∙ plus-minus (subℕ m b) (subℕ a m)
+
+-- ---- quotients
 
 -- a quotient by 2 or more is at most half
 pub half : (d P : ℕ) → 2 ≤ P → d / P * 2 ≤ d

@@ -1,20 +1,16 @@
 -- `double::displacement_of` meets its contract. proofs/Values.antt goes from the pattern to the definition.
 use mathlib.Core.Path.{_≡_, sym, _∙_, subst}
-use Prim.Native.Nat.{_^_, _≤_, _<_}
-use native.Mathlib.Nat.{lt-of-le-of-lt, le-trans, le-of-eq}
-use lib.Dec.{T, lit≤}
-use lib.IntN.{ℤ}
-use lib.Signed.{mag}
+use Prim.Native.Nat.{_^_, _<_}
+use native.Mathlib.Nat.{le-trans, le-of-eq}
+use lib.Dec.{T}
 use lib.Ieee.{binary64, fits}
 use lib.Ieee.Compare.{differs-from-itself}
 use borrow.Author.Needs.{needs}
-use mir.Syntax.{w64}
-use mir.ValLaws.{toZ-ofZ}
 use Rattle.double.specs.declared.Pattern.{Pattern}
 use Rattle.double.specs.Displacement.{IsNotFinite}
 use Rattle.double.proofs.Bits.{fieldOf, digitsOf, no-nan, given-field, given-finite, given-short}
-use Rattle.double.proofs.Scaling.{large, bounded}
-use Rattle.double.proofs.Values.{signed-le, infinite, large-is, counted}
+use Rattle.double.proofs.Scaling.{large}
+use Rattle.double.proofs.Values.{infinite, large-is, counted}
 use Rattle.double.proofs.displacement_of.Statement.{statement}
 use Rattle.double.proofs.displacement_of.Tie as tie
 
@@ -58,26 +54,14 @@ returns-3 c =
     large-is (a q .args .x) (held (a q)) (a q .args .scale .micros) (finite-field d)
     (large (a q .args .scale) (a q .pre) (fieldOf (a q .args .x)) (digitsOf (a q .args .x)) (le-trans (c .if3 .taken) (le-of-eq (field-is q))))
 
-scaled-size-requires : tie.Need-scaled-size-requires
-scaled-size-requires c κs = let q = c .before .before .before .before .before in (a q .pre, (c .if3 .left, short q))
-
-count-le : (c : tie.After-scaled-size) → c .scaled-size .result .count ≤ 2 ^ 62
-count-le c =
-    let q = c .before .before .before .before .before .before in
-    le-trans (le-of-eq (c .scaled-size .ensures .nearest)) (bounded (a q .args .scale) (a q .pre) (p q .field) (p q .digits) (short q) (c .before .if3 .left))
-
-signed-size-requires : tie.Need-signed-size-requires
-signed-size-requires c κs = lt-of-le-of-lt (count-le c) (lit≤ tt)
+displaced-requires : tie.Need-displaced-requires
+displaced-requires c κs = let q = c .before .before .before .before .before in (a q .pre, (c .if3 .left, short q))
 
 returns-4 : tie.Need-returns-4
 returns-4 c =
-    let r = c .before in
-    let d = r .before .before .before .before in
+    let d = c .before .before .before .before in
     let q = d .before .before in
-    let e = toZ-ofZ w64 (c .signed-size .result) (record { sfits = c .signed-size .ok }) ∙ c .signed-size .ensures in (
-      counted (a q .args .x) (held (a q)) (a q .args .scale .micros) (finite-field d) (p q) (q .pattern-of .ensures) (r .scaled-size .result) (r .scaled-size .ensures) _ e,
-      subst (λ (z : ℤ). mag z ≤ 2 ^ 62) (sym e) (le-trans (signed-le (p q .negative) (r .scaled-size .result .count)) (count-le r)),
-    )
+    (counted (a q .args .x) (held (a q)) (a q .args .scale .micros) (finite-field d) (p q) (q .pattern-of .ensures) (c .displaced .result) (c .displaced .ensures), c .displaced .ensures .small)
 
 pub displacement-of-spec : {M : Type 1} → statement M
 displacement-of-spec =
@@ -88,6 +72,5 @@ displacement-of-spec =
     returns-2
     add-if3
     returns-3
-    scaled-size-requires
-    signed-size-requires
+    displaced-requires
     returns-4)

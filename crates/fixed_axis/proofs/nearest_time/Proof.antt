@@ -1,6 +1,6 @@
 -- `fixed_axis::nearest_time` meets its contract. proofs/Doubles.antt goes from the displacement to the definition.
 use mathlib.Core.Path.{_≡_, sym, ap, _∙_, subst}
-use Prim.Native.Nat.{ℕ, _≤_, _<_, _^_}
+use Prim.Native.Nat.{ℕ, _<_, _^_}
 use native.Mathlib.Omega.{arith}
 use lib.IntN.{ℤ, _+ℤ_}
 use lib.Signed.{mag}
@@ -19,11 +19,8 @@ use Rattle.fixed_axis.proofs.Doubles as Doubles
 use Rattle.fixed_axis.proofs.nearest_time.Statement.{statement}
 use Rattle.fixed_axis.proofs.nearest_time.Tie as tie
 
-is-small : (a : tie.Start) → IsSmall (a .args .scale .micros) (a .args .x)
-is-small a = subst (λ (P : ℕ). IsSmall P (a .args .x)) (sym (a .pre .1 .0 .0)) (Doubles.small (a .args .c) (a .args .p) (a .args .reference) (a .pre .0) (a .args .x) (a .pre .1 .1))
-
 small-displacement-requires : tie.Need-small-displacement-requires
-small-displacement-requires c κs = (c .pre .1 .0 .1, is-small c)
+small-displacement-requires c κs = (c .pre .1 .0 .1, subst (λ (P : ℕ). IsSmall P (c .args .x)) (sym (c .pre .1 .0 .0)) (Doubles.small (c .args .c) (c .args .p) (c .args .reference) (c .pre .0) (c .args .x) (c .pre .1 .1)))
 
 module _ (c : tie.After-struct-told) where
   abbrev a : tie.Start
@@ -38,21 +35,18 @@ module _ (c : tie.After-struct-told) where
   near : mag (a .args .reference) < 2 ^ 59
   near = omega (arith, small (a .args .c) (a .args .reference) (a .pre .0))
 
-  size : mag (d .count) ≤ 2 ^ 62
-  size = Doubles.small-count (a .args .scale .micros) d (a .args .x) (is-small a) (c .before .before .small-displacement .ensures)
-
   reading : readingAt (a .args .c) (a .args .reference +ℤ d .count) (d .exact) ≡ readDouble (a .args .c) (a .args .p) (a .args .reference) (a .args .x)
-  reading = Doubles.displaced (a .args .c) (a .args .p) (a .args .reference) d (a .args .x) (subst (λ (P : ℕ). DisplacementOf d P (a .args .x)) (a .pre .1 .0 .0) (c .before .before .small-displacement .ensures))
+  reading = Doubles.displaced (a .args .c) (a .args .p) (a .args .reference) d (a .args .x) (subst (λ (P : ℕ). DisplacementOf d P (a .args .x)) (a .pre .1 .0 .0) (c .before .before .small-displacement .ensures .0))
 
 add-t7 : tie.Need-add-t7
-add-t7 c = sum-fits (a c .args .reference) (d c .count) (a c .fits .reference) (fits c) (near c) (size c)
+add-t7 c = sum-fits (a c .args .reference) (d c .count) (a c .fits .reference) (fits c) (near c) (c .before .before .small-displacement .ensures .1)
 
 returns : tie.Need-returns
 returns c =
     let s = a c in
     sym (reading c)
     ∙ (read-is (s .args .c) (s .args .reference +ℤ d c .count) (d c .exact) (ap isRead (reading c) ∙ s .pre .1 .1)
-    ∙ ap (λ (z : ℤ). Reading.At z (d c .exact)) (sym (sum-is (s .args .reference) (d c .count) (s .fits .reference) (fits c) (near c) (size c))))
+    ∙ ap (λ (z : ℤ). Reading.At z (d c .exact)) (sym (sum-is (s .args .reference) (d c .count) (s .fits .reference) (fits c) (near c) (c .before .before .small-displacement .ensures .1))))
 
 pub nearest-time-spec : {M : Type 1} → statement M
 nearest-time-spec = tie.close (tie.spec small-displacement-requires add-t7 returns)

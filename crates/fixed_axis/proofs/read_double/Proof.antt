@@ -12,7 +12,7 @@ use Rattle.instant.proofs.Range.{small}
 use Rattle.double.specs.declared.Displacement.{Displacement}
 use Rattle.double.specs.declared.DisplacementAnswer.{DisplacementAnswer}
 use Rattle.double.specs.declared.DisplacementAnswer.the-variants.{Is, Large, NotFinite}
-use Rattle.double.specs.Displacement.{AnswerOf}
+use Rattle.double.specs.Displacement.{DisplacementAnswerOf}
 use Rattle.fixed_axis.specs.Fixed.{readingAt}
 use Rattle.fixed_axis.proofs.Displacements.{sum-fits, sum-is}
 use Rattle.fixed_axis.proofs.Doubles.{displaced, not-finite, large}
@@ -24,8 +24,8 @@ module _ (c : tie.After-displacement-of) where
   abbrev a : tie.Start
   a = c .before .before
 
-  said : (r : DisplacementAnswer) → c .displacement-of .result ≡ r → AnswerOf r (lengthOf (a .args .p)) (a .args .x)
-  said r e = subst (λ (P : ℕ). AnswerOf r P (a .args .x)) (c .before .scale-of .ensures .0) (subst (λ (k : DisplacementAnswer). AnswerOf k (c .before .scale-of .result .micros) (a .args .x)) e (c .displacement-of .ensures))
+  said : (r : DisplacementAnswer) → c .displacement-of .result ≡ r → DisplacementAnswerOf r (lengthOf (a .args .p)) (a .args .x)
+  said r e = subst (λ (P : ℕ). DisplacementAnswerOf r P (a .args .x)) (c .before .scale-of .ensures .0) (subst (λ (k : DisplacementAnswer). DisplacementAnswerOf k (c .before .scale-of .result .micros) (a .args .x)) e (c .displacement-of .ensures))
 
 scale-of-requires : tie.Need-scale-of-requires
 scale-of-requires c κs = search needs
@@ -56,7 +56,7 @@ module _ (c : tie.After-struct-told) where
   abbrev d : Displacement
   d = c .before .before .before .a .given .0 .0
 
-  told : AnswerOf (Is d) (lengthOf (a q .args .p)) (a q .args .x)
+  told : DisplacementAnswerOf (Is d) (lengthOf (a q .args .p)) (a q .args .x)
   told = said q (Is d) (c .before .before .before .a .given .1)
 
   fits : SFits w64 (d .count)

@@ -1,7 +1,7 @@
 -- `calendar::month::month_length` meets its contract: the constant is the definition's table. Assumes nothing.
 use native.Mathlib.Omega.{arith}
 use borrow.Author.Needs.{needs}
-use Rattle.calendar.specs.Calendar.{monthDays}
+use Rattle.calendar.specs.Plain.{monthDays}
 use Rattle.calendar.proofs.Tables.{month-days}
 use Rattle.calendar.proofs.month.month_length.Statement.{statement}
 use Rattle.calendar.proofs.month.month_length.Tie as tie

@@ -5,7 +5,7 @@ use Prim.Native.Nat.{ℕ, _+_, _-_, _*_, _/_, _<_}
 use native.Mathlib.Omega.{arith}
 use lib.Dec.{ltb}
 use borrow.Author.Tests.{eq-eqb, ne-eqb}
-use Rattle.calendar.specs.Closed.{monthOf, Held}
+use Rattle.calendar.specs.Closed.{monthHolding, Held}
 use Rattle.calendar.proofs.Tables.{month-of, year-short}
 use Rattle.calendar.proofs.month.month_of.Statement.{statement}
 use Rattle.calendar.proofs.month.month_of.Tie as tie
@@ -24,7 +24,7 @@ returns : tie.Need-returns
 returns c =
     let k = c .before .args .k in
     let d = c .before .args .d in
-    let e : monthOf k d ≡ d / 30 = rw (eq-eqb k 2 (c .if1 .taken)) in
+    let e : monthHolding k d ≡ d / 30 = rw (eq-eqb k 2 (c .if1 .taken)) in
     subst (λ (m : ℕ). Held k m d) e (month-of k d (c .before .pre .0) (c .before .pre .1))
 
 past-february-requires : tie.Need-past-february-requires
@@ -40,7 +40,7 @@ returns-2 : tie.Need-returns-2
 returns-2 c =
     let k = c .before .before .args .k in
     let d = c .before .before .args .d in
-    let e : monthOf k d ≡ (12 * c .past-february .result + 6) / 367 = rw (ne-eqb k 2 (c .before .if1 .left)) (ap (λ (n : ℕ). (12 * n + 6) / 367) (sym (c .past-february .ensures))) in
+    let e : monthHolding k d ≡ (12 * c .past-february .result + 6) / 367 = rw (ne-eqb k 2 (c .before .if1 .left)) (ap (λ (n : ℕ). (12 * n + 6) / 367) (sym (c .past-february .ensures))) in
     subst (λ (m : ℕ). Held k m d) e (month-of k d (c .before .before .pre .0) (c .before .before .pre .1))
 
 pub month-of-spec : {M : Type 1} → statement M

@@ -1,92 +1,90 @@
--- `calendar::ordinal::day_in_year` meets its contract. Assumes nothing.
-use mathlib.Core.Path.{ap, _∙_}
-use Prim.Native.Nat.{ℕ, _+_, _-_, _<_}
+use mathlib.Core.Path.{_≡_, ap, _∙_}
+use mathlib.Core.Bool.{true}
+use Prim.Native.Nat.{_+_, _-_, _*_, _≤_}
 use native.Mathlib.Omega.{arith}
 use lib.IntN.{subℕ}
 use mir.Syntax.{w64}
 use mir.ValLaws.{toZ-ofZ}
 use Rattle.signed.proofs.Differences.{same-diff}
-use Rattle.calendar.specs.Calendar.{hasYearZero, kind, date, dateOf}
-use Rattle.calendar.specs.Closed.{yearAt, monthStart, epochDay}
-use Rattle.calendar.proofs.Existing.{Valid, valid-of, kind-low, long}
-use Rattle.calendar.proofs.Tables.{month-room}
+use Rattle.calendar.specs.Calendar.{dateOf}
+use Rattle.calendar.specs.Closed.{count, hasDayAt, dayPlace, counts, ruleAt, epochDay}
+use Rattle.calendar.specs.declared.rule.Rule.{Rule}
 use Rattle.calendar.proofs.Range.{small}
-use Rattle.calendar.proofs.Counting.{numbered, day-small}
+use Rattle.calendar.proofs.Counting.{Parts, parts-of, count-small, has-by, lag-at-small, numbered}
 use borrow.Author.Needs.{needs}
 use Rattle.calendar.proofs.ordinal.day_in_year.Statement.{statement}
 use Rattle.calendar.proofs.ordinal.day_in_year.Tie as tie
 
-valid : (s : tie.Start) → Valid (s .args .c) (date (yearAt (hasYearZero (s .args .c)) (s .args .y)) (s .args .month) (s .args .day))
-valid s = valid-of (s .args .c) (date (yearAt (hasYearZero (s .args .c)) (s .args .y)) (s .args .month) (s .args .day)) (s .pre .1)
+has : (s : tie.Start) → let a = s .args in hasDayAt (ruleAt (counts (a .c)) (a .y) (a .month) (a .day)) (a .y) (a .month) (a .day) ≡ true
+has s = let a = s .args in has-by (a .c) (a .y) (a .month) (a .day) (s .pre .1)
 
-ordinal-small : (c : tie.After-month-start) → c .month-start .result + (c .before .before .args .day - 1) < 500
-ordinal-small c =
-    let s = c .before .before in
-    let y = yearAt (hasYearZero (s .args .c)) (s .args .y) in
-    let k = c .before .kind-of in
-    let v = valid s in
-    omega (arith, c .month-start .ensures, month-room (k .result) (s .args .month - 1) (rw (k .ensures) (kind-low (s .args .c) y)) (omega (arith, v .month-high)), v .day-high, v .month-high, long (s .args .c) y (s .args .month) (v .month-low) (v .month-high))
+parts : (s : tie.Start) → let a = s .args in Parts (ruleAt (counts (a .c)) (a .y) (a .month) (a .day)) (a .y) (a .month) (a .day)
+parts s = let a = s .args in parts-of (ruleAt (counts (a .c)) (a .y) (a .month) (a .day)) (a .y) (a .month) (a .day) (has s)
 
-sub-m : tie.Need-sub-m
-sub-m c = valid c .month-low
+below : (s : tie.Start) → let a = s .args in (a .day ≤ 31) × (count (ruleAt (counts (a .c)) (a .y) (a .month) (a .day)) (dayPlace (a .y) (a .month) (a .day)) ≤ 366 * a .y + 500)
+below s = let a = s .args in count-small (ruleAt (counts (a .c)) (a .y) (a .month) (a .day)) (a .y) (a .month) (a .day) (has s)
 
-cast-m : tie.Need-cast-m
-cast-m c = search needs
+day-is : (c : tie.After-days-before) → let a = c .before .before .args in c .days-before .result ≡ count (ruleAt (counts (a .c)) (a .y) (a .month) (a .day)) (dayPlace (a .y) (a .month) (a .day))
+day-is c = let a = c .before .before .args in c .days-before .ensures ∙ ap (λ (r : Rule). count r (dayPlace (a .y) (a .month) (a .day))) (c .before .rule-at .ensures)
 
-kind-of-requires : tie.Need-kind-of-requires
-kind-of-requires c κs = search needs
+sub-t7 : tie.Need-sub-t7
+sub-t7 c = parts c .month-low
 
-month-start-requires : tie.Need-month-start-requires
-month-start-requires c κs = (rw (c .kind-of .ensures) (kind-low (c .before .args .c) (yearAt (hasYearZero (c .before .args .c)) (c .before .args .y))), omega (arith, valid (c .before) .month-low, valid (c .before) .month-high))
+cast-t8 : tie.Need-cast-t8
+cast-t8 c = search needs
 
-sub-d : tie.Need-sub-d
-sub-d c = valid (c .before .before) .day-low
+sub-unbiased : tie.Need-sub-unbiased
+sub-unbiased c = parts c .day-low
 
-cast-d : tie.Need-cast-d
-cast-d c = search needs
+cast-unbiased : tie.Need-cast-unbiased
+cast-unbiased c = search needs
 
-add-d : tie.Need-add-d
-add-d c = record { fits = omega (arith, ordinal-small c) }
+rule-at-requires : tie.Need-rule-at-requires
+rule-at-requires c κs = search needs
 
-day-at-requires : tie.Need-day-at-requires
-day-at-requires c κs = (c .before .before .pre .0, omega (arith, ordinal-small c))
+days-before-requires : tie.Need-days-before-requires
+days-before-requires c κs = let s = c .before in (s .pre .0, (omega (arith, parts s .month-low, parts s .month-high), omega (arith, below s)))
 
 origin-requires : tie.Need-origin-requires
 origin-requires c κs = search needs
 
 add-unbiased : tie.Need-add-unbiased
-add-unbiased c =
-    let s = c .before .before .before .before in
-    record { fits = omega (arith, c .before .day-at .ensures, day-small (s .args .c) (s .args .y) (c .before .before .month-start .result + (s .args .day - 1)), s .pre, ordinal-small (c .before .before), c .origin .ensures) }
+add-unbiased c = record { fits = omega (arith, day-is (c .before), below (c .before .before .before), c .origin .ensures, c .before .before .before .pre .0) }
+
+lag-at-requires : tie.Need-lag-at-requires
+lag-at-requires c κs = search needs
+
+sub-unbiased-2 : tie.Need-sub-unbiased-2
+sub-unbiased-2 c =
+    let a = c .before .before .before .before .args in
+    omega (arith, c .before .origin .ensures, c .lag-at .ensures, lag-at-small (a .c) (a .y) (a .month) (a .day), small (a .c))
 
 unbiased-requires : tie.Need-unbiased-requires
 unbiased-requires c κs = search needs
 
 returns : tie.Need-returns
 returns c =
-    let o = c .before in
-    let m = o .before .before in
-    let s = m .before .before in
-    let n = o .before .day-at .result in
-    let d = m .month-start .result + (s .args .day - 1) in
-    let ordinal = ap (λ (k : ℕ). k + (s .args .day - 1)) (m .month-start .ensures ∙ ap (λ (k : ℕ). monthStart k (s .args .month - 1)) (m .before .kind-of .ensures)) in
-    let day = same-diff (n + o .origin .result) 9223372036854775808 n (epochDay (s .args .c)) (omega (arith, o .origin .ensures, small (s .args .c))) in
-    ap (dateOf (s .args .c)) (toZ-ofZ w64 (c .unbiased .result) (record { sfits = c .unbiased .ok }) ∙ (c .unbiased .ensures ∙ (day ∙ ap (λ (k : ℕ). subℕ k (epochDay (s .args .c))) (o .before .day-at .ensures))))
-    ∙ numbered (s .args .c) (s .args .y) (s .args .month) (s .args .day) d (valid s) ordinal
+    let l = c .before in
+    let o = l .before in
+    let a = o .before .before .before .args in
+    let n = o .before .days-before .result in
+    let day = same-diff (n + o .origin .result - l .lag-at .result) 9223372036854775808 n (epochDay (a .c) + l .lag-at .result) (omega (arith, o .origin .ensures, l .lag-at .ensures, lag-at-small (a .c) (a .y) (a .month) (a .day), small (a .c))) in
+    ap (dateOf (a .c)) (toZ-ofZ w64 (c .unbiased .result) (record { sfits = c .unbiased .ok }) ∙ (c .unbiased .ensures ∙ (day ∙ (λ i. subℕ (day-is (o .before) i) (epochDay (a .c) + l .lag-at .ensures i)))))
+    ∙ numbered (a .c) (a .y) (a .month) (a .day) (o .before .before .before .pre .1)
 
 pub day-in-year-spec : {M : Type 1} → statement M
 day-in-year-spec =
     tie.close
     (tie.spec
-    sub-m
-    cast-m
-    kind-of-requires
-    month-start-requires
-    sub-d
-    cast-d
-    add-d
-    day-at-requires
+    sub-t7
+    cast-t8
+    sub-unbiased
+    cast-unbiased
+    rule-at-requires
+    days-before-requires
     origin-requires
     add-unbiased
+    lag-at-requires
+    sub-unbiased-2
     unbiased-requires
     returns)

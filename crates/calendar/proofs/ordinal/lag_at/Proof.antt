@@ -1,25 +1,23 @@
--- `calendar::ordinal::lag_at` meets its contract. Assumes nothing.
-use mathlib.Core.Path.{sym, _∙_}
-use borrow.Author.Tests.{not-true, not-false}
+use mathlib.Core.Path.{sym, ap, _∙_}
+use mathlib.Core.Bool.{Bool, cond}
+use Rattle.calendar.specs.Closed.{counts, lag}
 use borrow.Author.Needs.{needs}
 use Rattle.calendar.proofs.ordinal.lag_at.Statement.{statement}
 use Rattle.calendar.proofs.ordinal.lag_at.Tie as tie
 
-is-standard-requires : tie.Need-is-standard-requires
-is-standard-requires c κs = search needs
+is-early-requires : tie.Need-is-early-requires
+is-early-requires c κs = search needs
+
+lag-of-requires : tie.Need-lag-of-requires
+lag-of-requires c κs = search needs
 
 returns : tie.Need-returns
-returns c = rw (sym (c .before .is-standard .ensures) ∙ not-true (c .before .is-standard .result) (c .if1 .taken))
-
-is-late-requires : tie.Need-is-late-requires
-is-late-requires c κs = search needs
+returns c =
+    let e = c .before .before in
+    c .lag-of .ensures ∙ ap (λ (t : Bool). cond t (lag (counts (e .before .args .c))) 0) (sym (c .before .if1 .taken) ∙ e .is-early .ensures)
 
 returns-2 : tie.Need-returns-2
-returns-2 c = rw (sym (c .before .before .before .is-standard .ensures) ∙ not-false (c .before .before .before .is-standard .result) (c .before .before .if1 .left), sym (c .before .is-late .ensures) ∙ c .if2 .taken)
-
-returns-3 : tie.Need-returns-3
-returns-3 c = rw (sym (c .before .before .before .is-standard .ensures) ∙ not-false (c .before .before .before .is-standard .result) (c .before .before .if1 .left), sym (c .before .is-late .ensures) ∙ c .if2 .left)
+returns-2 c = let e = c .before in ap (λ (t : Bool). cond t (lag (counts (e .before .args .c))) 0) (sym (c .if1 .left) ∙ e .is-early .ensures)
 
 pub lag-at-spec : {M : Type 1} → statement M
-lag-at-spec =
-    tie.close (tie.spec is-standard-requires returns is-late-requires returns-2 returns-3)
+lag-at-spec = tie.close (tie.spec is-early-requires lag-of-requires returns returns-2)

@@ -3,8 +3,8 @@ use mathlib.Core.Path.{ap}
 use Prim.Native.Nat.{ℕ, _-_}
 use native.Mathlib.Omega.{arith}
 use native.Mathlib.Numerals.{add-one}
-use Rattle.calendar.specs.Closed.{yearStart, monthStart, row}
-use Rattle.calendar.proofs.Years.{year-above, year-law, row-low}
+use Rattle.calendar.specs.Closed.{yearStart, monthStart}
+use Rattle.calendar.proofs.Years.{year-least, year-law, kind-low}
 use Rattle.calendar.proofs.Places.{split-place}
 use borrow.Author.Needs.{needs}
 use Rattle.calendar.proofs.place.place_of.Statement.{statement}
@@ -17,7 +17,7 @@ kind-of-year-requires : tie.Need-kind-of-year-requires
 kind-of-year-requires c κs = search needs
 
 year-start-requires : tie.Need-year-start-requires
-year-start-requires c κs = omega (arith, c .before .year-of .ensures, year-above (c .before .before .args .r) (c .before .year-of .result))
+year-start-requires c κs = omega (arith, c .before .year-of .ensures, year-least (c .before .before .args .r) (c .before .year-of .result))
 
 sub-d : tie.Need-sub-d
 sub-d c = search needs
@@ -27,13 +27,13 @@ month-of-requires c κs =
     let r = c .before .before .before .args .r in
     let y = c .before .before .year-of .result in
     let k = c .before .kind-of-year .ensures in
-    (rw k (row-low r y), omega (arith, c .before .before .year-of .ensures, c .year-start .ensures, ap (yearStart r) (add-one y), year-law r y, ap (λ (j : ℕ). monthStart j 12) k))
+    (rw k (kind-low r y), omega (arith, c .before .before .year-of .ensures, c .year-start .ensures, ap (yearStart r) (add-one y), year-law r y, ap (λ (j : ℕ). monthStart j 12) k))
 
 month-start-requires : tie.Need-month-start-requires
 month-start-requires c κs =
     let r = c .before .before .before .before .args .r in
     let y = c .before .before .before .year-of .result in
-    (rw (c .before .before .kind-of-year .ensures) (row-low r y), c .month-of .ensures .month)
+    (rw (c .before .before .kind-of-year .ensures) (kind-low r y), c .month-of .ensures .month)
 
 sub-i : tie.Need-sub-i
 sub-i c = search needs

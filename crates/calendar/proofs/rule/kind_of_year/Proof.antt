@@ -1,8 +1,8 @@
 -- `calendar::rule::kind_of_year` meets its contract. Assumes nothing.
 use mathlib.Core.Path.{sym, ap, _∙_}
-use Rattle.calendar.specs.Closed.{row}
+use Rattle.calendar.specs.Closed.{kindAt}
 use Rattle.calendar.specs.declared.rule.Rule.{Rule}
-use Rattle.calendar.proofs.Years.{row-400, row-100, row-4, row-other, row-jul-4, row-jul-other}
+use Rattle.calendar.proofs.Years.{kind-400, kind-100, kind-4, kind-other, kind-julian-4, kind-julian-other}
 use borrow.Author.Needs.{needs}
 use Rattle.calendar.proofs.rule.kind_of_year.Statement.{statement}
 use Rattle.calendar.proofs.rule.kind_of_year.Tie as tie
@@ -11,46 +11,46 @@ enum-told : tie.Need-enum-told
 enum-told c = search needs
 
 returns : tie.Need-returns
-returns c = let y = c .before .before .before .args .y in sym (ap (λ (x : Rule). row x y) (c .before .enum-told .given .1) ∙ row-400 y (c .if1 .taken))
+returns c = let y = c .before .before .before .args .y in sym (ap (λ (x : Rule). kindAt x y) (c .before .enum-told .given .1) ∙ kind-400 y (c .if1 .taken))
 
 returns-2 : tie.Need-returns-2
-returns-2 c = let y = c .before .before .before .before .args .y in sym (ap (λ (x : Rule). row x y) (c .before .before .enum-told .given .1) ∙ row-100 y (c .before .if1 .left) (c .if2 .taken))
+returns-2 c = let y = c .before .before .before .before .args .y in sym (ap (λ (x : Rule). kindAt x y) (c .before .before .enum-told .given .1) ∙ kind-100 y (c .before .if1 .left) (c .if2 .taken))
 
 returns-3 : tie.Need-returns-3
-returns-3 c = let y = c .before .before .before .before .before .args .y in sym (ap (λ (x : Rule). row x y) (c .before .before .before .enum-told .given .1) ∙ row-4 y (c .before .if2 .left) (c .if3 .taken))
+returns-3 c = let y = c .before .before .before .before .before .args .y in sym (ap (λ (x : Rule). kindAt x y) (c .before .before .before .enum-told .given .1) ∙ kind-4 y (c .before .if2 .left) (c .if3 .taken))
 
 returns-4 : tie.Need-returns-4
-returns-4 c = let y = c .before .before .before .before .before .args .y in sym (ap (λ (x : Rule). row x y) (c .before .before .before .enum-told .given .1) ∙ row-other y (c .before .before .if1 .left) (c .if3 .left))
+returns-4 c = let y = c .before .before .before .before .before .args .y in sym (ap (λ (x : Rule). kindAt x y) (c .before .before .before .enum-told .given .1) ∙ kind-other y (c .before .before .if1 .left) (c .if3 .left))
 
 enum-told-2 : tie.Need-enum-told-2
 enum-told-2 c = search needs
 
 returns-5 : tie.Need-returns-5
-returns-5 c = let y = c .before .before .before .args .y in sym (ap (λ (x : Rule). row x y) (c .before .enum-told2 .given .1) ∙ row-jul-4 y (c .if4 .taken))
+returns-5 c = let y = c .before .before .before .args .y in sym (ap (λ (x : Rule). kindAt x y) (c .before .enum-told2 .given .1) ∙ kind-julian-4 y (c .if4 .taken))
 
 returns-6 : tie.Need-returns-6
-returns-6 c = let y = c .before .before .before .args .y in sym (ap (λ (x : Rule). row x y) (c .before .enum-told2 .given .1) ∙ row-jul-other y (c .if4 .left))
+returns-6 c = let y = c .before .before .before .args .y in sym (ap (λ (x : Rule). kindAt x y) (c .before .enum-told2 .given .1) ∙ kind-julian-other y (c .if4 .left))
 
 enum-told-3 : tie.Need-enum-told-3
 enum-told-3 c = search needs
 
 returns-7 : tie.Need-returns-7
-unfolding row
-returns-7 c = ap (λ (x : Rule). row x (c .before .before .args .y)) (sym (c .enum-told3 .given .1))
+unfolding kindAt
+returns-7 c = ap (λ (x : Rule). kindAt x (c .before .before .args .y)) (sym (c .enum-told3 .given .1))
 
 enum-told-4 : tie.Need-enum-told-4
 enum-told-4 c = search needs
 
 returns-8 : tie.Need-returns-8
-unfolding row
-returns-8 c = ap (λ (x : Rule). row x (c .before .before .args .y)) (sym (c .enum-told4 .given .1))
+unfolding kindAt
+returns-8 c = ap (λ (x : Rule). kindAt x (c .before .before .args .y)) (sym (c .enum-told4 .given .1))
 
 enum-told-5 : tie.Need-enum-told-5
 enum-told-5 c = search needs
 
 returns-9 : tie.Need-returns-9
-unfolding row
-returns-9 c = ap (λ (x : Rule). row x (c .before .before .args .y)) (sym (c .enum-told5 .given .1))
+unfolding kindAt
+returns-9 c = ap (λ (x : Rule). kindAt x (c .before .before .args .y)) (sym (c .enum-told5 .given .1))
 
 pub kind-of-year-spec : {M : Type 1} → statement M
 kind-of-year-spec =

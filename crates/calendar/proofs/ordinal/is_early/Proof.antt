@@ -1,0 +1,34 @@
+use mathlib.Core.Path.{_≡_, sym, ap, _∙_}
+use mathlib.Core.Bool.{true, false}
+use borrow.Author.Tests.{not-true, not-false}
+use Rattle.calendar.specs.Closed.{beforePlace, counts, mixed}
+use Rattle.calendar.specs.declared.row.CountedRow.{CountedRow}
+use borrow.Author.Needs.{needs}
+use Rattle.calendar.proofs.ordinal.is_early.Statement.{statement}
+use Rattle.calendar.proofs.ordinal.is_early.Tie as tie
+
+is-mixed-requires : tie.Need-is-mixed-requires
+is-mixed-requires c κs = search needs
+
+returns : tie.Need-returns
+returns c =
+    let m : mixed (counts (c .before .before .args .c)) ≡ false = sym (c .before .is-mixed .ensures) ∙ not-true (c .before .is-mixed .result) (c .if1 .taken) in
+    rw m
+
+row-of-requires : tie.Need-row-of-requires
+row-of-requires c κs = search needs
+
+is-before-requires : tie.Need-is-before-requires
+is-before-requires c κs = search needs
+
+returns-2 : tie.Need-returns-2
+returns-2 c =
+    let r = c .before .before in
+    let l = r .before in
+    let a = l .before .before .args in
+    let m : mixed (counts (a .c)) ≡ true = sym (l .before .is-mixed .ensures) ∙ not-false (l .before .is-mixed .result) (l .if1 .left) in
+    c .is-before .ensures ∙ (ap (λ (k : CountedRow). beforePlace (a .y) (a .month) (a .day) (k .from)) (r .row-of .ensures) ∙ rw m)
+
+pub is-early-spec : {M : Type 1} → statement M
+is-early-spec =
+    tie.close (tie.spec is-mixed-requires returns row-of-requires is-before-requires returns-2)
