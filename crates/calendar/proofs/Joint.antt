@@ -9,7 +9,7 @@ use Rattle.calendar.specs.Calendar.{CalendarRow, earlyPart, latePart, ne
 use Rattle.calendar.specs.Order.{earlier}
 use Rattle.calendar.specs.declared.Date.{Date}
 use Rattle.calendar.proofs.Ordered.{Before, earlier-of, before-trans, not-before, Compared, earlier-than, same-as, later-than, compare, not-earlier, not-same, same-self}
-use Rattle.calendar.proofs.Plain.{Chain, chain}
+use Rattle.calendar.proofs.Plain.{Chain, chain, none-before-next}
 
 -- all that is asked of the two days at which they are joined
 pub record Junction (r : CalendarRow) : Type 0 where
@@ -93,40 +93,30 @@ module _ (r : CalendarRow) (s : Junction r) where
     there : Side r (nextBy r x)
     back : prevBy r (nextBy r x) ≡ x
     up : Before x (nextBy r x)
-    least : (w : Date) → Side r w → Before x w → Before w (nextBy r x) → ⊥
 
   -- from the date that is the next
-  on-by : (x n : Date) → nextBy r x ≡ n → Side r n → prevBy r n ≡ x → Before x n → ((w : Date) → Side r w → Before x w → Before w n → ⊥) → On x
-  on-by x n e i p u f =
+  on-by : (x n : Date) → nextBy r x ≡ n → Side r n → prevBy r n ≡ x → Before x n → On x
+  on-by x n e i p u =
       record {
         there = subst (Side r) (sym e) i;
         back = ap (prevBy r) e ∙ p;
         up = subst (Before x) (sym e) u;
-        least = λ w v g k. f w v g (subst (Before w) e k);
       }
 
   on-last : On (r .last)
-  on-last = on-by (r .last) (r .first) next-last (on-late (s .first) (not-before (r .first))) prev-first (s .rises) apart
-    where
-      apart : (w : Date) → Side r w → Before (r .last) w → Before w (r .first) → ⊥
-      apart w (on-early h f) p q = f p
-      apart w (on-late h f) p q = f q
+  on-last = on-by (r .last) (r .first) next-last (on-late (s .first) (not-before (r .first))) prev-first (s .rises)
 
   on-early-side : (x : Date) → hasDay (earlyPart r) x ≡ true → Before x (r .last) → On x
-  on-early-side x h l = on-by x n (next-early x l) (on-early (a .after x h) kept) (prev-early n (below n kept) ∙ a .undone x h) (a .later x h) apart
+  on-early-side x h l = on-by x n (next-early x l) (on-early (a .after x h) kept) (prev-early n (below n kept) ∙ a .undone x h) (a .later x h)
     where
       n : Date
       n = dayAfter (earlyPart r) x
 
       kept : Before (r .last) n → ⊥
-      kept = a .none-between x (r .last) h (s .last) l
-
-      apart : (w : Date) → Side r w → Before x w → Before w n → ⊥
-      apart w (on-early g f) p q = a .none-between x w h g p q
-      apart w (on-late g f) p q = f (before-trans w n (r .first) q (below n kept))
+      kept = none-before-next (earlyPart r) x (r .last) h (s .last) l
 
   on-late-side : (x : Date) → hasDay (latePart r) x ≡ true → (Before x (r .first) → ⊥) → On x
-  on-late-side x h f = on-by x n (next-late x f) (on-late (b .after x h) (λ p. not-before (r .first) (before-trans (r .first) n (r .first) past p))) (prev-late n past ∙ b .undone x h) (b .later x h) apart
+  on-late-side x h f = on-by x n (next-late x f) (on-late (b .after x h) (λ p. not-before (r .first) (before-trans (r .first) n (r .first) past p))) (prev-late n past ∙ b .undone x h) (b .later x h)
     where
       n : Date
       n = dayAfter (latePart r) x
@@ -138,10 +128,6 @@ module _ (r : CalendarRow) (s : Junction r) where
 
       past : Before (r .first) n
       past = go (compare (r .first) x)
-
-      apart : (w : Date) → Side r w → Before x w → Before w n → ⊥
-      apart w (on-early g k) p q = f (before-trans x w (r .first) p (below w k))
-      apart w (on-late g k) p q = b .none-between x w h g p q
 
   on : (x : Date) → Side r x → On x
   on x (on-early h f) = go (compare x (r .last))
@@ -175,7 +161,7 @@ module _ (r : CalendarRow) (s : Junction r) where
       go : Compared (r .first) x → Back x
       go (earlier-than l) =
           let n = dayBefore (latePart r) x in
-          let k : Before n (r .first) → ⊥ = λ p. b .none-between n (r .first) (b .before x h) (s .first) p (subst (Before (r .first)) (sym (b .redone x h)) l) in
+          let k : Before n (r .first) → ⊥ = λ p. none-before-next (latePart r) n (r .first) (b .before x h) (s .first) p (subst (Before (r .first)) (sym (b .redone x h)) l) in
           back-by x n (prev-late x l) (on-late (b .before x h) k) (next-late n k ∙ b .redone x h)
       go (same-as e) = subst Back e (back-by (r .first) (r .last) prev-first (on-early (s .last) (not-before (r .last))) next-last)
       go (later-than l) = absurd (f l)
@@ -188,5 +174,4 @@ module _ (r : CalendarRow) (s : Junction r) where
         undone = λ x h. on x (side-of x h) .back;
         redone = λ x h. back x (side-of x h) .again;
         later = λ x h. on x (side-of x h) .up;
-        none-between = λ x y h g. on x (side-of x h) .least y (side-of y g);
       }

@@ -14,4 +14,5 @@ pub mod Existing
 pub mod Numbering
 pub mod Answering
 pub mod Counting
+pub mod Months
 pub mod Theorems

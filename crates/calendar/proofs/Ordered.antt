@@ -1,15 +1,16 @@
 -- The order of dates: field by field, as a relation, and any two dates compared.
 use mathlib.Core.Path.{_≡_, refl, sym, ap, _∙_}
 use mathlib.Core.Bool.{Bool, true, false, not, _&&_, _||_, or-true, true≢false, false≢true}
-use Prim.Native.Nat.{ℕ, suc, _+_, _<_}
+use Prim.Native.Nat.{ℕ, suc, _+_, _<_, _≤_}
 use native.Mathlib.Omega.{arith}
 use native.Mathlib.Decide.{decLe}
 use lib.Dec.{ltb, eqb}
-use lib.IntN.{ℤ, pos, negsuc}
+use lib.IntN.{ℤ, pos, negsuc, subℕ}
 use lib.Signed.{ltZ}
 use borrow.Author.Tests.{lt-ltb, ltb-true, eqb-true, eq-eqb}
 use Rattle.signed.proofs.Tests.{to-false, both, and-parts}
 use Rattle.signed.proofs.Order.{lt-trans, lt-irrefl}
+use Rattle.signed.proofs.Differences.{Common, common, sub-lt}
 use Rattle.calendar.specs.Calendar.{hasYearZero, yearAfter, date}
 use Rattle.calendar.specs.Order.{sameYear, earlier, sameDate}
 use Rattle.calendar.specs.declared.Calendar.{Calendar}
@@ -87,24 +88,15 @@ data Years (a b : ℤ) : Type 0 where
   more : ltZ b a ≡ true → Years a b
 
 years : (a b : ℤ) → Years a b
-years (pos a) (pos b) =
-    elim (decLe (suc a) b) [
-      | yes h ↦ less (lt-ltb a b h)
-      | no h ↦ elim (decLe (suc b) a) [
-        | yes g ↦ more (lt-ltb b a g)
-        | no g ↦ same (ap pos (omega arith))
-      ]
-    ]
-years (pos a) (negsuc b) = more refl
-years (negsuc a) (pos b) = less refl
-years (negsuc a) (negsuc b) =
-    elim (decLe (suc a) b) [
-      | yes h ↦ more (lt-ltb a b h)
-      | no h ↦ elim (decLe (suc b) a) [
-        | yes g ↦ less (lt-ltb b a g)
-        | no g ↦ same (ap negsuc (omega arith))
-      ]
-    ]
+years a b = go (decLe (suc (k .left)) (k .right)) (decLe (suc (k .right)) (k .left))
+  where
+    k : Common a b
+    k = common a b
+
+    go : Dec (suc (k .left) ≤ k .right) → Dec (suc (k .right) ≤ k .left) → Years a b
+    go (yes h) g = less ((λ i. ltZ (sym (k .is-left) i) (sym (k .is-right) i)) ∙ (sub-lt (k .left) (k .right) (k .least) ∙ lt-ltb (k .left) (k .right) h))
+    go (no h) (yes g) = more ((λ i. ltZ (sym (k .is-right) i) (sym (k .is-left) i)) ∙ (sub-lt (k .right) (k .left) (k .least) ∙ lt-ltb (k .right) (k .left) g))
+    go (no h) (no g) = same (sym (k .is-left) ∙ (ap (λ (n : ℕ). subℕ n (k .least)) (omega arith) ∙ k .is-right))
 
 pub data Compared (x y : Date) : Type 0 where
   earlier-than : Before x y → Compared x y

@@ -23,7 +23,6 @@ pub record Chain (nx pv : Date → Date) (ex : Date → Bool) : Type 0 where
   pub undone : (x : Date) → ex x ≡ true → pv (nx x) ≡ x
   pub redone : (x : Date) → ex x ≡ true → nx (pv x) ≡ x
   pub later : (x : Date) → ex x ≡ true → Before x (nx x)
-  pub none-between : (x y : Date) → ex x ≡ true → ex y ≡ true → Before x y → Before y (nx x) → ⊥
 
 kind-by-low : (r : Rule) (y : ℤ) → kindBy r y < 3
 kind-by-low Rule.Gregorian y = of-leap-low (leapGregorian y)
@@ -173,5 +172,8 @@ module _ (p : Plain) where
         undone = λ x h. prev-is (follows-next x (valid-of x h));
         redone = λ x h. next-is (follows-prev x (valid-of x h));
         later = λ x h. follows-later (follows-next x (valid-of x h));
-        none-between = λ x y h g. none (follows-next x (valid-of x h)) y (valid-of y g);
       }
+
+  -- no date lies between a date and the next
+  pub none-before-next : (x w : Date) → hasDay p x ≡ true → hasDay p w ≡ true → Before x w → Before w (dayAfter p x) → ⊥
+  none-before-next x w h g = none (follows-next x (valid-of x h)) w (valid-of w g)

@@ -1,21 +1,23 @@
 -- The dates of the day numbers of a row, from the laws of its next-day rule alone: they exist, rise with the numbers, and are the
 -- terms of every sequence that goes by the rule and meets 1970-01-01.
 use mathlib.Core.Path.{_≡_, refl, sym, ap, _∙_, subst}
-use mathlib.Core.Bool.{true}
+use mathlib.Core.Bool.{true, false, not, true≢false}
 use Prim.Native.Nat.{ℕ, zero, suc, _+_, _-_, _<_, _≤_}
 use native.Mathlib.Omega.{arith}
 use native.Mathlib.Nat.{add-zero, add-suc}
 use native.Mathlib.Decide.{decLe}
-use lib.Dec.{leb, ltb}
+use lib.Dec.{ltb}
 use lib.IntN.{ℤ, pos, negsuc, sucℤ, subℕ}
 use lib.Signed.{leZ, ltZ}
-use borrow.Author.Tests.{lt-ltb, le-ltb, leb-true}
-use Rattle.signed.proofs.Order.{le-refl, le-of-lt}
-use Rattle.signed.proofs.Differences.{by-sign, common, sub-suc, sub-le, sub-lt}
+use borrow.Author.Tests.{lt-ltb, le-ltb, ltb-true, ltb-false}
+use Rattle.signed.proofs.Tests.{to-false}
+use Rattle.signed.proofs.Order.{lt-not-le}
+use Rattle.signed.proofs.Integers.{leZ-not}
+use Rattle.signed.proofs.Differences.{by-sign, common, sub-suc, sub-lt}
 use Rattle.calendar.specs.Calendar.{CalendarRow, nextBy, prevBy, existsBy, dateBy, epoch, times}
 use Rattle.calendar.specs.Order.{earlier}
 use Rattle.calendar.specs.declared.Date.{Date}
-use Rattle.calendar.proofs.Ordered.{Before, by-year, by-month, by-day, earlier-of, before-trans, not-before, not-earlier}
+use Rattle.calendar.proofs.Ordered.{Before, by-year, earlier-of, before-trans, not-before, not-earlier}
 use Rattle.calendar.proofs.Plain.{Chain}
 
 -- ---- a sequence of dates, each later than the last
@@ -41,29 +43,12 @@ module _ (L : ℕ → Date) (up : (n : ℕ) → Before (L n) (L (suc n))) where
 
   -- what the order of the dates says of the numbers
   pub below : (a b : ℕ) → Before (L a) (L b) → a < b
-  below a b h =
-      elim (decLe (suc a) b) [
-        | yes g ↦ g
-        | no g ↦ elim (decLe (suc b) a) [
-          | yes k ↦ absurd (not-before (L a) (before-trans (L a) (L b) (L a) h (rises b a k)))
-          | no k ↦ let e : a ≡ b = omega arith in absurd (not-before (L b) (subst (λ (n : ℕ). Before (L n) (L b)) e h))
-        ]
-      ]
+  below a b h = ltb-true a b (sym (order-is a b) ∙ earlier-of (L a) (L b) h)
 
   pub one : (a b : ℕ) → L a ≡ L b → a ≡ b
   one a b e =
-      elim (decLe (suc a) b) [
-        | yes h ↦ absurd (not-before (L b) (subst (λ (d : Date). Before d (L b)) e (rises a b h)))
-        | no h ↦ elim (decLe (suc b) a) [
-          | yes g ↦ absurd (not-before (L b) (subst (λ (d : Date). Before (L b) d) e (rises b a g)))
-          | no g ↦ omega arith
-        ]
-      ]
-
-not-later : (x y : Date) → Before x y → leZ (x .year) (y .year) ≡ true
-not-later x y (by-year u) = le-of-lt (x .year) (y .year) u
-not-later x y (by-month u v) = ap (λ (a : ℤ). leZ a (y .year)) u ∙ le-refl (y .year)
-not-later x y (by-day u v q) = ap (λ (a : ℤ). leZ a (y .year)) u ∙ le-refl (y .year)
+      let not-less : (x y : Date) → x ≡ y → earlier x y ≡ false = λ x y f. not-earlier x y (λ g. not-before y (subst (λ (d : Date). Before d y) f g)) in
+      omega (arith, ltb-false a b (sym (order-is a b) ∙ not-less (L a) (L b) e), ltb-false b a (sym (order-is b a) ∙ not-less (L b) (L a) (sym e)))
 
 -- ---- the dates of the day numbers
 
@@ -112,18 +97,10 @@ module _ (r : CalendarRow) (c : Chain (nextBy r) (prevBy r) (existsBy r)) (start
   -- years do not fall
   pub years-rise : (z w : ℤ) → leZ z w ≡ true → leZ (dateBy r z .year) (dateBy r w .year) ≡ true
   years-rise z w h =
-      let k = common z w in
-      let l : k .left ≤ k .right = leb-true (k .left) (k .right) (sym (sub-le (k .left) (k .right) (k .least)) ∙ ((λ i. leZ (k .is-left i) (k .is-right i)) ∙ h)) in
-      (λ i. leZ (dateBy r (sym (k .is-left) i) .year) (dateBy r (sym (k .is-right) i) .year)) ∙ go (k .left) (k .right) (k .least) l
-    where
-      go : (a b k : ℕ) → a ≤ b → leZ (dateBy r (subℕ a k) .year) (dateBy r (subℕ b k) .year) ≡ true
-      go a b k l =
-          elim (decLe (suc a) b) [
-            | yes g ↦ not-later (dateBy r (subℕ a k)) (dateBy r (subℕ b k)) (rises (λ n. dateBy r (subℕ n k)) (up-at k) a b g)
-            | no g ↦
-                let e : a ≡ b = omega arith in
-                ap (λ (n : ℕ). leZ (dateBy r (subℕ n k) .year) (dateBy r (subℕ b k) .year)) e ∙ le-refl (dateBy r (subℕ b k) .year)
-          ]
+      let x = dateBy r z in
+      let y = dateBy r w in
+      let not-less : ltZ w z ≡ false = lt-not-le w z ∙ ap not h in
+      leZ-not (x .year) (y .year) ∙ ap not (to-false (ltZ (y .year) (x .year)) (λ u. true≢false (sym (earlier-of y x (by-year u)) ∙ (order w z ∙ not-less))))
 
   -- ---- a sequence of dates by the next-day rule, with 1970-01-01 at place `base`
 

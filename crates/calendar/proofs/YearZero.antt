@@ -1,12 +1,13 @@
 -- The year after and the year before, with or without a year 0.
-use mathlib.Core.Path.{_≡_, refl}
-use mathlib.Core.Bool.{Bool, true, false, true≢false, false≢true}
+use mathlib.Core.Path.{_≡_, refl, sym, ap, _∙_}
+use mathlib.Core.Bool.{Bool, true, false, true≢false}
 use Prim.Native.Nat.{zero, suc}
 use native.Mathlib.Omega.{arith}
 use lib.IntN.{ℤ, pos, negsuc, sucℤ, suc-pred, pred-suc}
 use lib.Signed.{ltZ}
 use borrow.Author.Tests.{lt-ltb, ltb-true, ne-eqb}
 use Rattle.signed.proofs.Order.{lt-suc}
+use Rattle.signed.proofs.Differences.{common, sub-lt, sub-suc}
 use Rattle.calendar.specs.Plain.{skipAfter, skipBefore, nextYear, prevYear, isYear, lacksYear}
 
 skip-back : (y : ℤ) → isYear 0 y ≡ false → skipAfter (skipBefore y) ≡ y
@@ -60,21 +61,18 @@ later false y = lt-skip y
 -- ---- between a year and the year after it there is none
 
 no-between : (y w : ℤ) → ltZ y w ≡ true → ltZ w (sucℤ y) ≡ true → ⊥
-no-between (pos a) (pos b) p q = omega (arith, ltb-true a b p, ltb-true b (suc a) q)
-no-between (pos a) (negsuc b) p q = false≢true p
-no-between (negsuc zero) (pos b) p q = omega (arith, ltb-true b 0 q)
-no-between (negsuc zero) (negsuc b) p q = omega (arith, ltb-true b 0 p)
-no-between (negsuc (suc a)) (pos b) p q = false≢true q
-no-between (negsuc (suc a)) (negsuc b) p q = omega (arith, ltb-true b (suc a) p, ltb-true a b q)
+no-between y w p q =
+    let k = common y w in
+    let low = sym (sub-lt (k .left) (k .right) (k .least)) ∙ ((λ i. ltZ (k .is-left i) (k .is-right i)) ∙ p) in
+    let high = sym (sub-lt (k .right) (suc (k .left)) (k .least)) ∙ ((λ i. ltZ (k .is-right i) ((sym (sub-suc (k .left) (k .least)) ∙ ap sucℤ (k .is-left)) i)) ∙ q) in
+    omega (arith, ltb-true (k .left) (k .right) low, ltb-true (k .right) (suc (k .left)) high)
 
 no-skipped : (y w : ℤ) → ltZ y w ≡ true → ltZ w (skipAfter y) ≡ true → isYear 0 w ≡ false → ⊥
-no-skipped (pos a) (pos b) p q n = omega (arith, ltb-true a b p, ltb-true b (suc a) q)
-no-skipped (pos a) (negsuc b) p q n = false≢true p
+no-skipped (pos a) w p q n = no-between (pos a) w p q
 no-skipped (negsuc zero) (pos zero) p q n = true≢false n
 no-skipped (negsuc zero) (pos (suc b)) p q n = omega (arith, ltb-true (suc b) 1 q)
 no-skipped (negsuc zero) (negsuc b) p q n = omega (arith, ltb-true b 0 p)
-no-skipped (negsuc (suc a)) (pos b) p q n = false≢true q
-no-skipped (negsuc (suc a)) (negsuc b) p q n = omega (arith, ltb-true b (suc a) p, ltb-true a b q)
+no-skipped (negsuc (suc a)) w p q n = no-between (negsuc (suc a)) w p q
 
 pub none-between : (z : Bool) (y w : ℤ) → ltZ y w ≡ true → ltZ w (nextYear z y) ≡ true → lacksYear z w ≡ false → ⊥
 none-between true y w p q n = no-between y w p q

@@ -13,7 +13,7 @@ use Rattle.signed.proofs.Differences.{Common, common, by-sign, sub-low, sub-hig
 use Rattle.signed.proofs.Lexicographic.{lexicographic}
 use Rattle.calendar.specs.Calendar.{dateOf, inYears}
 use Rattle.calendar.specs.Order.{earlier, sameDate}
-use Rattle.calendar.specs.Answers.{dateAnswer, dayAnswer, pickDateAnswer}
+use Rattle.calendar.specs.Answers.{dateAnswer, dayAnswer}
 use Rattle.calendar.specs.declared.Calendar.{Calendar}
 use Rattle.calendar.specs.declared.Date.{Date}
 use Rattle.calendar.specs.declared.DateAnswer.{DateAnswer}
@@ -103,7 +103,7 @@ module _ (c : Calendar) (t : ℤ) where
   unfolding fieldsAnswer dateAnswer
   shown f = go (inRange c t) refl
     where
-      go : (b : Bool) → inRange c t ≡ b → withTime (pickDateAnswer b (DateAnswer.Is (dateOf c (dayOf t))) (DateAnswer.Refused OutOfRange)) (timeOf t) ≡ FieldsAnswer.Is f → Shown f
+      go : (b : Bool) → inRange c t ≡ b → withTime (cond b (DateAnswer.Is (dateOf c (dayOf t))) (DateAnswer.Refused OutOfRange)) (timeOf t) ≡ FieldsAnswer.Is f → Shown f
       go true e h = record { inside = e; is = (cc) }
       go false e h = absurd (let y : _≡_ {A = ℕ} 0 1 = (cc) in omega arith)
 

@@ -15,7 +15,7 @@ use Rattle.grammar.specs.Reader.{read}
 use Rattle.grammar.proofs.Reading.{derives}
 use Rattle.grammar.proofs.Numerals.{number-below}
 use Rattle.calendar.specs.Calendar.{exists, inYears}
-use Rattle.calendar.specs.Answers.{dayNumber, dayAnswer, pickDayAnswer}
+use Rattle.calendar.specs.Answers.{dayNumber, dayAnswer}
 use Rattle.calendar.specs.declared.Calendar.{Calendar}
 use Rattle.calendar.specs.declared.DayAnswer.{DayAnswer}
 use Rattle.instant.specs.Instant.{dayLength, dateIn, isClock, clockTime, withClock, instantAnswer}
@@ -52,6 +52,6 @@ written-order c w h = rw (signed-in (w .negative) (w .year) h) (go (exists c (da
     clocked true = refl
     clocked false = refl
 
-    go : (a : Bool) → lessZone c (w .time .zone) (withClock (pickDayAnswer a (DayAnswer.Is (dayNumber c (dateIn (localFields w)))) (DayAnswer.Refused Refusal.NoSuchDate)) (localFields w)) ≡ cond ((a && isClock (localFields w)) && isZone (w .time .zone)) (ranged c (localInstant c w -ℤ ahead (w .time .zone))) (InstantAnswer.Refused Refusal.NoSuchDate)
+    go : (a : Bool) → lessZone c (w .time .zone) (withClock (cond a (DayAnswer.Is (dayNumber c (dateIn (localFields w)))) (DayAnswer.Refused Refusal.NoSuchDate)) (localFields w)) ≡ cond ((a && isClock (localFields w)) && isZone (w .time .zone)) (ranged c (localInstant c w -ℤ ahead (w .time .zone))) (InstantAnswer.Refused Refusal.NoSuchDate)
     go true = clocked (isClock (localFields w))
     go false = refl

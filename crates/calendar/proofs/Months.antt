@@ -1,0 +1,221 @@
+-- Which days of a month exist: its first day does, and below a day that does not the next that does is the month's last or the last
+-- day before the cutover.
+use mathlib.Core.Path.{_≡_, refl, sym, ap, _∙_, subst}
+use mathlib.Core.Bool.{Bool, true, false, true≢false}
+use Prim.Native.Nat.{ℕ, _<_, _≤_}
+use native.Mathlib.Omega.{arith}
+use native.Mathlib.Decide.{decLe}
+use lib.IntN.{ℤ, pos}
+use Rattle.signed.proofs.Tests.{to-false}
+use Rattle.calendar.specs.Plain.{Plain, lacksYear, lastDay, date, hasDay}
+use Rattle.calendar.specs.Calendar.{CalendarRow, earlyPart, latePart, existsBy, exists, hasYearZero, rowOf}
+use Rattle.calendar.specs.declared.Calendar.{Calendar}
+use Rattle.calendar.specs.declared.Calendar.the-variants.{Standard, ProlepticGregorian, Julian, NoLeap, AllLeap, Day360}
+use Rattle.calendar.specs.declared.Date.{Date}
+use Rattle.calendar.proofs.Ordered.{date-eq, Before, by-year, by-month, by-day, before-trans, not-before, Compared, earlier-than, same-as, later-than, compare, clash, in-month}
+use Rattle.calendar.proofs.Plain.{valid-of, exists-of, long}
+use Rattle.calendar.proofs.Joint.{Junction, Side, on-early, on-late, below, side-of, exists-on}
+use Rattle.calendar.proofs.Days.{junction}
+use Rattle.calendar.proofs.Rows.{cutover}
+
+-- a month of a year that is there
+pub record Month (z : Bool) (y : ℤ) (m : ℕ) : Type 0 where
+  pub year : lacksYear z y ≡ false
+  pub low : 1 ≤ m
+  pub high : m ≤ 12
+
+-- the dates that a cutover drops lie in the month of the last day before it
+pub OneMonth : CalendarRow → Type 0
+OneMonth r = (x : Date) → hasDay (earlyPart r) x ≡ true → Before (r .last) x → Before x (r .first) → (r .last .year ≡ x .year) × (r .last .month ≡ x .month)
+
+-- why a day is the next that exists below another
+pub data Found (r : CalendarRow) (y : ℤ) (m : ℕ) : ℕ → Type 0 where
+  month-end : (p : Plain) → Found r y m (lastDay p y m)
+  last-kept : r .last .year ≡ y → r .last .month ≡ m → Found r y m (r .last .day)
+
+-- the next day that exists below day d
+pub record Below (r : CalendarRow) (y : ℤ) (m d : ℕ) : Type 0 where
+  pub day : ℕ
+  pub why : Found r y m day
+  pub less : day < d
+  pub there : existsBy r (date y m day) ≡ true
+  pub none : (k : ℕ) → day < k → k ≤ d → existsBy r (date y m k) ≡ false
+
+-- a day of a month is a date of a plain calendar up to the month's length
+has-day : (p : Plain) (y : ℤ) (m d : ℕ) → Month (p .zero) y m → 1 ≤ d → d ≤ lastDay p y m → hasDay p (date y m d) ≡ true
+has-day p y m d h a b = exists-of p (date y m d) (record { month-low = h .low; month-high = h .high; day-low = a; day-high = b; there = h .year })
+
+module _ (r : CalendarRow) (j : Junction r) (o : OneMonth r) (y : ℤ) (m : ℕ) (h : Month (r .zero) y m) where
+  pub first-exists : existsBy r (date y m 1) ≡ true
+  unfolding OneMonth
+  first-exists = go (compare (date y m 1) (r .first)) (compare (date y m 1) (r .last))
+    where
+      x : Date
+      x = date y m 1
+
+      has : (p : Plain) → p .zero ≡ r .zero → hasDay p (date y m 1) ≡ true
+      has p e = has-day p y m 1 (subst (λ (z : Bool). Month z y m) (sym e) h) (omega arith) (omega (arith, long p y m (h .low) (h .high)))
+
+      late : (Before x (r .first) → ⊥) → existsBy r x ≡ true
+      late f = exists-on r j x (on-late (has (latePart r) refl) f)
+
+      early : (Before (r .last) x → ⊥) → existsBy r x ≡ true
+      early f = exists-on r j x (on-early (has (earlyPart r) refl) f)
+
+      -- the first of the month of the last day is not after it
+      not-dropped : Before (r .last) x → Before x (r .first) → ⊥
+      not-dropped (by-year a) q = let w = o x (has (earlyPart r) refl) (by-year a) q in clash (r .last .year) y a (w .0)
+      not-dropped (by-month e a) q = let w = o x (has (earlyPart r) refl) (by-month e a) q in omega (arith, w .1)
+      not-dropped (by-day e f a) q = omega (arith, valid-of (earlyPart r) (r .last) (j .last) .day-low)
+
+      go : Compared x (r .first) → Compared x (r .last) → existsBy r x ≡ true
+      go (earlier-than a) (earlier-than b) = early (λ f. not-before x (before-trans x (r .last) x b f))
+      go (earlier-than a) (same-as e) = early (λ f. not-before x (subst (λ (w : Date). Before w x) (sym e) f))
+      go (earlier-than a) (later-than b) = absurd (not-dropped b a)
+      go (same-as e) c = late (λ f. not-before x (subst (Before x) (sym e) f))
+      go (later-than a) c = late (λ f. not-before x (before-trans x (r .first) x f a))
+
+  module _ (d : ℕ) (low : 1 ≤ d) where
+    abbrev x : Date
+    x = date y m d
+
+    -- of two days of the month not the greater comes before
+    upto : (k : ℕ) (w : Date) → k ≤ d → Before x w → Before (date y m k) w
+    upto k w a (by-year b) = by-year b
+    upto k w a (by-month e b) = by-month e b
+    upto k w a (by-day e f b) = by-day e f (omega arith)
+
+    -- a day that its month has is there, if not late, and if not after the last
+    not-late : (k : ℕ) → k ≤ d → Before x (r .first) → Side r (date y m k) → (hasDay (earlyPart r) (date y m k) ≡ true → (Before (r .last) (date y m k) → ⊥) → ⊥) → ⊥
+    not-late k a b (on-early g f) h = h g f
+    not-late k a b (on-late g f) h = f (upto k (r .first) a b)
+
+    early-end : Before x (r .first) → lastDay (earlyPart r) y m < d → (Before (r .last) (date y m (lastDay (earlyPart r) y m)) → ⊥) → Below r y m d
+    early-end b g f =
+        let l = lastDay (earlyPart r) y m in
+        record {
+          day = l;
+          why = month-end (earlyPart r);
+          less = g;
+          there = exists-on r j (date y m l) (on-early (has-day (earlyPart r) y m l h (omega (arith, long (earlyPart r) y m (h .low) (h .high))) (omega arith)) f);
+          none = λ k a c. to-false (existsBy r (date y m k)) (λ e. not-late k c b (side-of r j (date y m k) e) (λ u v. omega (arith, valid-of (earlyPart r) (date y m k) u .day-high)));
+        }
+
+    last-end : Before x (r .first) → r .last .year ≡ y → r .last .month ≡ m → r .last .day < d → Below r y m d
+    last-end b e f g =
+        let is : r .last ≡ date y m (r .last .day) = date-eq e f refl in
+        record {
+          day = r .last .day;
+          why = last-kept e f;
+          less = g;
+          there = ap (existsBy r) (sym is) ∙ exists-on r j (r .last) (on-early (j .last) (not-before (r .last)));
+          none = λ k a c. to-false (existsBy r (date y m k)) (λ u. not-late k c b (side-of r j (date y m k) u) (λ v w. w (by-day e f a)));
+        }
+
+    late-end : (Before x (r .first) → ⊥) → lastDay (latePart r) y m < d → Below r y m d
+    late-end b g =
+        record {
+          day = l;
+          why = month-end (latePart r);
+          less = g;
+          there = exists-on r j w (on-late (has-day (latePart r) y m l h (omega (arith, long (latePart r) y m (h .low) (h .high))) (omega arith)) from);
+          none = λ k a c. to-false (existsBy r (date y m k)) (λ e. not-there k a (side-of r j (date y m k) e));
+        }
+      where
+        l : ℕ
+        l = lastDay (latePart r) y m
+
+        w : Date
+        w = date y m l
+
+        -- the first late day lies at or before the last of the month
+        past : (z : Date) → hasDay (latePart r) z ≡ true → y ≡ z .year → m ≡ z .month → l < z .day → ⊥
+        past z u e f a = let q : l ≡ lastDay (latePart r) (z .year) (z .month) = λ i. lastDay (latePart r) (e i) (f i) in omega (arith, valid-of (latePart r) z u .day-high)
+
+        from : Before w (r .first) → ⊥
+        from a = go (compare (r .first) x)
+          where
+            go : Compared (r .first) x → ⊥
+            go (earlier-than c) = let i = in-month y m l d (r .first) a c in past (r .first) (j .first) (i .year) (i .month) (i .after)
+            go (same-as e) = past (r .first) (j .first) (sym (ap (λ (q : Date). q .year) e)) (sym (ap (λ (q : Date). q .month) e)) (omega (arith, ap (λ (q : Date). q .day) e))
+            go (later-than c) = b c
+
+        not-there : (k : ℕ) → l < k → Side r (date y m k) → ⊥
+        not-there k a (on-early u f) = from (before-trans w (date y m k) (r .first) (by-day refl refl a) (below r j (date y m k) f))
+        not-there k a (on-late u f) = past (date y m k) u refl refl a
+
+    -- below a day that does not exist
+    pub day-below : existsBy r x ≡ false → Below r y m d
+    unfolding OneMonth
+    day-below n = go (compare x (r .first))
+      where
+        l : ℕ
+        l = lastDay (earlyPart r) y m
+
+        late : (Before x (r .first) → ⊥) → Below r y m d
+        late f =
+            elim (decLe d (lastDay (latePart r) y m)) [
+              | yes g ↦ absurd (true≢false (sym (exists-on r j x (on-late (has-day (latePart r) y m d h low g) f)) ∙ n))
+              | no g ↦ late-end f (omega arith)
+            ]
+
+        -- after the last day, before the first
+        dropped : (k : ℕ) → k ≤ d → 1 ≤ k → k ≤ l → Before x (r .first) → Before (r .last) (date y m k) → Below r y m d
+        dropped k a c g b u =
+            let w = o (date y m k) (has-day (earlyPart r) y m k h c g) u (upto k (r .first) a b) in
+            last-end b (w .0) (w .1) (omega (arith, day-after u (w .0) (w .1)))
+          where
+            day-after : Before (r .last) (date y m k) → r .last .year ≡ y → r .last .month ≡ m → r .last .day < k
+            day-after (by-year q) e f = absurd (clash (r .last .year) y q e)
+            day-after (by-month p q) e f = absurd (omega arith)
+            day-after (by-day p q v) e f = v
+
+        early : Before x (r .first) → Below r y m d
+        early b =
+            elim (decLe d l) [
+              | yes g ↦ go-last (compare (r .last) x) g
+              | no g ↦ go-end (compare (r .last) (date y m l)) (omega arith)
+            ]
+          where
+            kept : d ≤ l → (Before (r .last) x → ⊥) → Below r y m d
+            kept g f = absurd (true≢false (sym (exists-on r j x (on-early (has-day (earlyPart r) y m d h low g) f)) ∙ n))
+
+            go-last : Compared (r .last) x → d ≤ l → Below r y m d
+            go-last (earlier-than u) g = dropped d (omega arith) low g b u
+            go-last (same-as e) g = kept g (λ f. not-before x (subst (λ (w : Date). Before w x) e f))
+            go-last (later-than u) g = kept g (λ f. not-before x (before-trans x (r .last) x u f))
+
+            go-end : Compared (r .last) (date y m l) → l < d → Below r y m d
+            go-end (earlier-than u) g = dropped l (omega arith) (omega (arith, long (earlyPart r) y m (h .low) (h .high))) (omega arith) b u
+            go-end (same-as e) g = early-end b g (λ f. not-before (date y m l) (subst (λ (w : Date). Before w (date y m l)) e f))
+            go-end (later-than u) g = early-end b g (λ f. not-before (date y m l) (before-trans (date y m l) (r .last) (date y m l) u f))
+
+        go : Compared x (r .first) → Below r y m d
+        go (earlier-than a) = early a
+        go (same-as e) = late (λ f. not-before x (subst (Before x) (sym e) f))
+        go (later-than a) = late (λ f. not-before x (before-trans x (r .first) x f a))
+
+-- ---- the calendars
+
+in-october : (a b : ℕ) (x : Date) → Before (date (pos 1582) 10 a) x → Before x (date (pos 1582) 10 b) → (pos 1582 ≡ x .year) × (10 ≡ x .month)
+in-october a b x p q = let i = in-month (pos 1582) 10 a b x p q in (i .year, i .month)
+
+pub one-month : (c : Calendar) → OneMonth (rowOf c)
+unfolding OneMonth
+one-month Standard x g = in-october 4 15 x
+one-month ProlepticGregorian x g = in-october 14 15 x
+one-month Julian x g = in-october 14 15 x
+one-month NoLeap x g = in-october 14 15 x
+one-month AllLeap x g = in-october 14 15 x
+one-month Day360 x g = in-october 14 15 x
+
+module _ (c : Calendar) (y : ℤ) (m : ℕ) (h : Month (hasYearZero c) y m) where
+  -- the first of every month exists
+  pub first-there : exists c (date y m 1) ≡ true
+  unfolding exists
+  first-there = first-exists (rowOf c) (junction (rowOf c) (cutover c)) (one-month c) y m h
+
+  -- below a day that does not exist: the next that does, and why
+  pub below-day : (d : ℕ) → 1 ≤ d → exists c (date y m d) ≡ false → Below (rowOf c) y m d
+  unfolding exists
+  below-day = day-below (rowOf c) (junction (rowOf c) (cutover c)) (one-month c) y m h
