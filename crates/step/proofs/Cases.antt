@@ -2,7 +2,9 @@
 use mathlib.Core.List.{List, [], _∷_, map}
 use mathlib.Core.Path.{_≡_, refl}
 use lib.IntN.{pos, negsuc}
-use Rattle.calendar.specs.Calendar.{date, exists, kind, monthDays, times, yearAfter, yearBefore}
+use Rattle.calendar.specs.Calendar.{date, exists, existsBy, times, yearAfter, yearBefore}
+use Rattle.calendar.specs.Order.{earlier}
+use Rattle.calendar.specs.Plain.{hasDay, kind, monthDays}
 use Rattle.calendar.specs.declared.Calendar.the-variants.{Standard, ProlepticGregorian, Day360}
 use Rattle.calendar.specs.declared.Date.{Date}
 use Rattle.step.specs.Steps.{stepAfter, stepBefore, steps, downTo, dateAfter}
@@ -30,5 +32,5 @@ cases =
     ∷ []
 
 pub cases-hold : map (λ (k : Case). k .is) cases ≡ map (λ (k : Case). k .expected) cases
-unfolding dateAfter steps times stepAfter stepBefore yearAfter yearBefore downTo exists kind monthDays
+unfolding dateAfter steps times stepAfter stepBefore yearAfter yearBefore downTo exists existsBy earlier hasDay kind monthDays
 cases-hold = refl

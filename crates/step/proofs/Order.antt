@@ -7,7 +7,8 @@ use lib.Dec.{ltb}
 use lib.IntN.{ℤ, pos, negsuc, predℤ}
 use lib.Signed.{ltZ}
 use borrow.Author.Tests.{lt-ltb, ltb-true}
-use Rattle.calendar.specs.Calendar.{hasYearZero, yearAfter, yearBefore, skipBefore, date}
+use Rattle.calendar.specs.Calendar.{hasYearZero, yearAfter, yearBefore, date}
+use Rattle.calendar.specs.Plain.{skipBefore}
 use Rattle.calendar.specs.declared.Calendar.{Calendar}
 use Rattle.calendar.specs.declared.Date.{Date}
 use Rattle.calendar.proofs.Ordered.{Before, by-year, by-month, by-day, before-trans, year-later}
