@@ -1,1 +1,4 @@
+pub mod Floats
+pub mod Pass
+pub mod Within
 pub mod Between

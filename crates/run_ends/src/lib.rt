@@ -1,42 +1,37 @@
-// Whether the ends of a run show that every offset is read: where the least and the greatest are, every offset between them is. Where they do
-// not show it, nothing is said.
+// A run checked by its ends: where its least and its greatest offset are read, every offset between them is. Where the ends do not show it,
+// nothing is said. A reader may rely on specs/Ends.antt and on the theorems of proofs/Within.antt and proofs/Between.antt.
 ghost use mathlib.Core.Path.{_≡_};
 ghost use mathlib.Core.Bool.{true, _&&_};
 ghost use Rattle.axis_types.specs.declared.Mode.{Mode};
 ghost use Rattle.axis_types.specs.Reading.{isRead};
 ghost use Rattle.axis.specs.Axis.{readDoubleOn, readWholeOn};
-ghost use Rattle.span.specs.Span.{Each};
+ghost use Rattle.run_ends.specs.Ends.{Each};
+use crate::ends::DoubleEnds;
+use crate::ends::WholeDoubleEnds;
+use crate::ends::WholeEnds;
 use axis_types::Axis;
 use axis_types::Mode;
 use axis_types::Reading;
-use span::Doubles;
-use span::WholeDoubles;
 
-fn is_read(r: Reading) -> bool
-    ensures { λ b. ⌜ b ≡ isRead r ⌝ }
+pub mod ends;
+
+fn both_read(a: Reading, b: Reading) -> bool
+    ensures { λ r. ⌜ r ≡ (isRead a && isRead b) ⌝ }
 {
-    match r {
-        Reading::At(_, _) => return true,
+    match a {
         Reading::Refused(_) => return false,
+        Reading::At(_, _) => match b {
+            Reading::Refused(_) => return false,
+            Reading::At(_, _) => return true,
+        },
     }
 }
 
-fn both_doubles_read(axis: Axis, a: f64, b: f64) -> bool
-    ensures { λ r. ⌜ r ≡ (isRead (readDoubleOn axis a) && isRead (readDoubleOn axis b)) ⌝ }
+fn whole_ends_read(axis: Axis, ends: WholeEnds) -> bool
+    ensures { λ r. ⌜ r ≡ (isRead (readWholeOn axis (ends .least)) && isRead (readWholeOn axis (ends .greatest))) ⌝ }
 {
-    if is_read(axis::read_double(axis, a)) {
-        return is_read(axis::read_double(axis, b));
-    }
-    return false;
-}
-
-fn both_wholes_read(axis: Axis, a: i64, b: i64) -> bool
-    ensures { λ r. ⌜ r ≡ (isRead (readWholeOn axis a) && isRead (readWholeOn axis b)) ⌝ }
-{
-    if is_read(axis::read_whole(axis, a)) {
-        return is_read(axis::read_whole(axis, b));
-    }
-    return false;
+    let least = axis::read_whole(axis, ends.least);
+    both_read(least, axis::read_whole(axis, ends.greatest))
 }
 
 // In fixed mode, by the order of doubles.
@@ -44,9 +39,12 @@ fn fixed_doubles_read(axis: Axis, source: &[f64]) -> bool
     requires { ⌜ axis .mode ≡ Mode.Fixed ⌝ }
     ensures { λ b. ⌜ (b ≡ true → Each (λ x. isRead (readDoubleOn axis x) ≡ true) (now (source .entry))) ⌝ }
 {
-    match span::of_doubles(source) {
-        Doubles::NotANumber => return false,
-        Doubles::Between { least, greatest } => return both_doubles_read(axis, least, greatest),
+    match ends::double_ends(source) {
+        DoubleEnds::NotANumber => return false,
+        DoubleEnds::Between { least, greatest } => {
+            let first = axis::read_double(axis, least);
+            return both_read(first, axis::read_double(axis, greatest));
+        }
     }
 }
 
@@ -55,9 +53,9 @@ fn whole_doubles_read(axis: Axis, source: &[f64]) -> bool
     requires { ⌜ axis .mode ≡ Mode.Calendar ⌝ }
     ensures { λ b. ⌜ (b ≡ true → Each (λ x. isRead (readDoubleOn axis x) ≡ true) (now (source .entry))) ⌝ }
 {
-    match span::of_whole_doubles(source) {
-        WholeDoubles::NotWhole => return false,
-        WholeDoubles::Between(ends) => return both_wholes_read(axis, ends.least, ends.greatest),
+    match ends::whole_double_ends(source) {
+        WholeDoubleEnds::NotWhole => return false,
+        WholeDoubleEnds::Between(ends) => return whole_ends_read(axis, ends),
     }
 }
 
@@ -76,6 +74,5 @@ pub fn doubles_read(axis: Axis, source: &[f64]) -> bool
 pub fn wholes_read(axis: Axis, source: &[i64]) -> bool
     ensures { λ b. ⌜ (b ≡ true → Each (λ n. isRead (readWholeOn axis n) ≡ true) (now (source .entry))) ⌝ }
 {
-    let ends = span::of_wholes(source);
-    both_wholes_read(axis, ends.least, ends.greatest)
+    whole_ends_read(axis, ends::whole_ends(source))
 }

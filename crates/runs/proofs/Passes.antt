@@ -7,18 +7,24 @@ use native.Mathlib.Nat.{not-suc-le-zero, le-of-suc-le-suc}
 use native.Mathlib.Numerals.{add-one}
 use native.Mathlib.Omega.{arith}
 use lib.Dec.{ltb}
-use lib.IntN.{ℤ}
+use lib.IntN.{ℤ, pos}
 use lib.ListN.{length, take, drop, getD, set, length-set, drop-of-length-le}
 use lib.Seq.{drop-cons, take-all}
-use borrow.Author.Tests.{lt-ltb, le-ltb, ltb-false}
+use mir.Syntax.{w64}
+use mir.Val.{SFits, toZ, ofZ}
+use mir.ValLaws.{toZ-ofZ}
+use borrow.Author.Tests.{ltb-false}
 use Rattle.refusal.specs.declared.Refusal.{Refusal}
-use Rattle.refusal.specs.declared.Refusal.the-variants.{OutOfRange, NoRoom}
+use Rattle.refusal.specs.declared.Refusal.the-variants.{NoRoom}
 use Rattle.axis_types.specs.Reading.{instantOf, isRead}
 use Rattle.axis_types.specs.declared.Reading.{Reading}
 use Rattle.axis_types.proofs.Answers.{was-read}
-use Rattle.span.specs.Span.{Each}
+use Rattle.axis.specs.Axis.{onGood}
+use Rattle.axis.specs.declared.AxisCheck.{AxisCheck}
+use Rattle.run_ends.specs.Ends.{Each}
 use Rattle.runs.specs.declared.Check.{Check}
-use Rattle.runs.specs.Run.{markOf, after, checked, rounded, overlaid, runCheck}
+use Rattle.runs.specs.declared.RunAnswer.{RunAnswer}
+use Rattle.runs.specs.Run.{markOf, after, checked, roundedCount, overlaid, checkedFirst, checkAnswer, chosen}
 
 -- the check of a run whose first i offsets are read
 abbrev pub from : ℕ → Check → Check
@@ -38,31 +44,32 @@ mark-le (Reading.At z true) = omega arith
 mark-le (Reading.At z false) = omega arith
 mark-le (Reading.Refused r) = omega arith
 
-module _ {A : Type 0} (read : A → Reading) (xs : List A) where
-  -- ---- the pass that checks: the first i offsets are read
-  pub record Checking (i : ℕ) : Type 0 where
-    pub within : i ≤ length xs
-    pub so-far : checked read xs ≡ from i (checked read (drop i xs))
+-- ---- the pass that checks
+-- the first i offsets are read
+pub record Checking {A : Type 0} (read : A → Reading) (xs : List A) (i : ℕ) : Type 0 where
+  pub within : i ≤ length xs
+  pub so-far : checked read xs ≡ from i (checked read (drop i xs))
 
-  checked-drop : (i : ℕ) (d : A) → i < length xs → checked read (drop i xs) ≡ after (read (getD xs i d)) (checked read (drop (i + 1) xs))
-  unfolding checked
-  checked-drop i d h = rw (add-one, drop-cons xs i d)
-
-  pub checking-starts : Checking 0
+module _ {A : Type 0} {read : A → Reading} {xs : List A} where
+  pub checking-starts : Checking read xs 0
   checking-starts = record { within = omega arith; so-far = from-none (checked read xs) }
 
-  pub checking-on : (i : ℕ) (d : A) (z : ℤ) (exact : Bool) → Checking i → i < length xs → read (getD xs i d) ≡ Reading.At z exact → Checking (i + 1)
-  checking-on i d z exact k h e =
-      let rest = checked read (drop (i + 1) xs) in
-      record { within = omega arith; so-far = k .so-far ∙ (ap (from i) (checked-drop i d h ∙ ap (λ (r : Reading). after r rest) e) ∙ from-read i z exact rest) }
+  module _ {i : ℕ} (d : A) (k : Checking read xs i) (h : i < length xs) where
+    checking-at : (r : Reading) → read (getD xs i d) ≡ r → checked read xs ≡ from i (after r (checked read (drop (i + 1) xs)))
+    unfolding checked
+    checking-at r e =
+        let next : checked read (drop i xs) ≡ after (read (getD xs i d)) (checked read (drop (i + 1) xs)) = rw (add-one, drop-cons xs i d) in
+        k .so-far ∙ ap (from i) (next ∙ ap (λ (q : Reading). after q (checked read (drop (i + 1) xs))) e)
 
-  pub checking-stops : (i : ℕ) (d : A) (r : Refusal) → Checking i → i < length xs → read (getD xs i d) ≡ Reading.Refused r → Check.Refused r i ≡ checked read xs
-  checking-stops i d r k h e =
-      sym (k .so-far ∙ (ap (from i) (checked-drop i d h ∙ ap (λ (q : Reading). after q (checked read (drop (i + 1) xs))) e) ∙ ap (Check.Refused r) (omega arith)))
+    pub checking-on : {z : ℤ} {exact : Bool} → read (getD xs i d) ≡ Reading.At z exact → Checking read xs (i + 1)
+    checking-on {z} {exact} e = record { within = omega arith; so-far = checking-at (Reading.At z exact) e ∙ from-read i z exact (checked read (drop (i + 1) xs)) }
 
-  pub checking-ends : (i : ℕ) → Checking i → length xs ≤ i → Check.AllRead ≡ checked read xs
+    pub checking-stops : {r : Refusal} → read (getD xs i d) ≡ Reading.Refused r → Check.Refused r i ≡ checked read xs
+    checking-stops {r} e = sym (checking-at (Reading.Refused r) e ∙ ap (Check.Refused r) (omega arith))
+
+  pub checking-ends : {i : ℕ} → Checking read xs i → length xs ≤ i → Check.AllRead ≡ checked read xs
   unfolding checked
-  checking-ends i k h = sym (k .so-far ∙ ap (λ (l : List A). from i (checked read l)) (drop-of-length-le xs h))
+  checking-ends {i} k h = sym (k .so-far ∙ ap (λ (l : List A). from i (checked read l)) (drop-of-length-le xs h))
 
 -- ---- what is read
 pub each-read : {A : Type 0} (read : A → Reading) (xs : List A) → Each (λ (x : A). isRead (read x) ≡ true) xs → Check.AllRead ≡ checked read xs
@@ -71,7 +78,7 @@ each-read read [] h = refl
 each-read read (x ∷ xs) h = let r = was-read (read x) (h .0) in λ i. after (sym (r .2) i) (each-read read xs (h .1) i)
 
 -- where every offset is read, the one at each place is
-pub read-at : {A : Type 0} (read : A → Reading) (d : A) (xs : List A) (i : ℕ) → checked read xs ≡ Check.AllRead → i < length xs → isRead (read (getD xs i d)) ≡ true
+read-at : {A : Type 0} (read : A → Reading) (d : A) (xs : List A) (i : ℕ) → checked read xs ≡ Check.AllRead → i < length xs → isRead (read (getD xs i d)) ≡ true
 unfolding checked
 read-at read d [] i e h = absurd (not-suc-le-zero h)
 read-at read d (x ∷ xs) zero e h = first (read x) (checked read xs) e
@@ -88,15 +95,15 @@ read-at read d (x ∷ xs) (suc i) e h = read-at read d xs i (rest (read x) (chec
 
 -- ---- the pass that writes
 module _ {A : Type 0} (read : A → Reading) where
-  rounded-on : (d : A) (xs : List A) (k : ℕ) → k < length xs → rounded read (take (suc k) xs) ≡ rounded read (take k xs) + markOf (read (getD xs k d))
-  unfolding rounded
+  rounded-on : (d : A) (xs : List A) (k : ℕ) → k < length xs → roundedCount read (take (suc k) xs) ≡ roundedCount read (take k xs) + markOf (read (getD xs k d))
+  unfolding roundedCount
   rounded-on d [] k h = absurd (not-suc-le-zero h)
   rounded-on d (x ∷ xs) zero h = omega arith
   rounded-on d (x ∷ xs) (suc k) h = let e = rounded-on d xs k (le-of-suc-le-suc h) in omega arith
 
   -- a reading that rounds nothing
-  pub none-rounded : ((x : A) → markOf (read x) ≡ 0) → (xs : List A) → rounded read xs ≡ 0
-  unfolding rounded
+  pub none-rounded : ((x : A) → markOf (read x) ≡ 0) → (xs : List A) → roundedCount read xs ≡ 0
+  unfolding roundedCount
   none-rounded f [] = refl
   none-rounded f (x ∷ xs) = λ i. f x i + none-rounded f xs i
 
@@ -106,77 +113,102 @@ module _ {A : Type 0} (read : A → Reading) where
   put d (x ∷ xs) (y ∷ ds) zero h l = refl
   put d (x ∷ xs) (y ∷ ds) (suc k) h l = ap (λ (t : List ℤ). instantOf (read x) ∷ t) (put d xs ds k (le-of-suc-le-suc h) (le-of-suc-le-suc l))
 
-module _ {A : Type 0} (read : A → Reading) (xs : List A) (ds : List ℤ) where
-  -- the first i instants stand in now, which was ds
-  pub record Writing (now : List ℤ) (i : ℕ) : Type 0 where
-    pub within : i ≤ length xs
-    pub room : length xs ≤ length ds
-    pub same-room : length now ≡ length ds
-    pub holds : now ≡ map (λ (x : A). instantOf (read x)) (take i xs) ++ drop i ds
+-- the first i instants stand in now, which was ds
+pub record Writing {A : Type 0} (read : A → Reading) (xs : List A) (ds now : List ℤ) (i : ℕ) : Type 0 where
+  pub all-read : checked read xs ≡ Check.AllRead
+  pub within : i ≤ length xs
+  pub room : length xs ≤ length ds
+  pub same-room : length now ≡ length ds
+  pub holds : now ≡ map (λ (x : A). instantOf (read x)) (take i xs) ++ drop i ds
 
-  pub writing-starts : length xs ≤ length ds → Writing ds 0
-  writing-starts h = record { within = omega arith; room = h; same-room = refl; holds = refl }
+module _ {A : Type 0} {read : A → Reading} {xs : List A} {ds : List ℤ} where
+  pub writing-starts : length xs ≤ length ds → checked read xs ≡ Check.AllRead → Writing read xs ds ds 0
+  writing-starts h e = record { all-read = e; within = omega arith; room = h; same-room = refl; holds = refl }
 
-  pub writing-on : (now : List ℤ) (i : ℕ) (d : A) (v : ℤ) → Writing now i → i < length xs → v ≡ instantOf (read (getD xs i d)) → Writing (set now i v) (i + 1)
-  writing-on now i d v w h e =
-      record {
-        within = omega arith;
-        room = w .room;
-        same-room = length-set now i v ∙ w .same-room;
-        holds = (λ j. set (w .holds j) i (e j)) ∙ (put read d xs ds i h (w .room) ∙ ap (λ (k : ℕ). map (λ (x : A). instantOf (read x)) (take k xs) ++ drop k ds) (sym (add-one i)));
-      }
+  module _ {now : List ℤ} {i : ℕ} (d : A) (w : Writing read xs ds now i) (h : i < length xs) where
+    pub writing-read : isRead (read (getD xs i d)) ≡ true
+    writing-read = read-at read d xs i (w .all-read) h
 
-  pub writing-ends : (now : List ℤ) (i : ℕ) → Writing now i → length xs ≤ i → now ≡ overlaid read xs ds
-  writing-ends now i w h =
+    -- one instant more, as it is stored
+    pub writing-on : {t : ℤ} → SFits w64 t → t ≡ instantOf (read (getD xs i d)) → Writing read xs ds (set now i (toZ w64 (ofZ w64 t))) (i + 1)
+    writing-on {t} f e =
+        record {
+          all-read = w .all-read;
+          within = omega arith;
+          room = w .room;
+          same-room = length-set now i (toZ w64 (ofZ w64 t)) ∙ w .same-room;
+          holds = (λ j. set (w .holds j) i ((toZ-ofZ w64 t f ∙ e) j)) ∙ (put read d xs ds i h (w .room) ∙ ap (λ (k : ℕ). map (λ (x : A). instantOf (read x)) (take k xs) ++ drop k ds) (sym (add-one i)));
+        }
+
+  pub writing-ends : {now : List ℤ} {i : ℕ} → Writing read xs ds now i → length xs ≤ i → now ≡ overlaid read xs ds
+  unfolding overlaid
+  writing-ends {now} {i} w h =
       let e : i ≡ length xs = omega (arith, w .within) in
       w .holds ∙ (λ j. map (λ (x : A). instantOf (read x)) (take-all i xs h j) ++ drop (e j) ds)
 
-module _ {A : Type 0} (read : A → Reading) (xs : List A) where
-  -- n of the first i offsets are rounded
-  pub record Counting (n i : ℕ) : Type 0 where
-    pub counts : n ≡ rounded read (take i xs)
-    pub few : n ≤ i
+-- a whole offset as it crosses into a call
+module _ {read : ℤ → Reading} {xs ds now : List ℤ} {i : ℕ} (w : Writing read xs ds now i) (h : i < length xs) (f : SFits w64 (getD xs i (pos 0))) where
+  pub whole-read : isRead (read (toZ w64 (ofZ w64 (getD xs i (pos 0))))) ≡ true
+  whole-read = rw (toZ-ofZ w64 (getD xs i (pos 0)) f) (writing-read (pos 0) w h)
 
-  pub counting-starts : Counting 0 0
-  unfolding rounded
+  pub whole-written : {t : ℤ} → SFits w64 t → t ≡ instantOf (read (toZ w64 (ofZ w64 (getD xs i (pos 0))))) → Writing read xs ds (set now i (toZ w64 (ofZ w64 t))) (i + 1)
+  whole-written g e = writing-on (pos 0) w h g (e ∙ ap (λ (n : ℤ). instantOf (read n)) (toZ-ofZ w64 (getD xs i (pos 0)) f))
+
+-- n of the first i offsets are rounded
+pub record Counting {A : Type 0} (read : A → Reading) (xs : List A) (n i : ℕ) : Type 0 where
+  pub counts : n ≡ roundedCount read (take i xs)
+  pub few : n ≤ i
+
+module _ {A : Type 0} {read : A → Reading} {xs : List A} where
+  pub counting-starts : Counting read xs 0 0
+  unfolding roundedCount
   counting-starts = record { counts = refl; few = omega arith }
 
-  pub counting-on : (n i : ℕ) (d : A) (m : ℕ) → Counting n i → i < length xs → m ≡ markOf (read (getD xs i d)) → Counting (n + m) (i + 1)
-  counting-on n i d m c h f =
+  pub counting-on : {n i : ℕ} (d : A) {m : ℕ} → Counting read xs n i → i < length xs → m ≡ markOf (read (getD xs i d)) → Counting read xs (n + m) (i + 1)
+  counting-on {n} {i} d {m} c h f =
       record {
-        counts = (λ j. c .counts j + f j) ∙ (sym (rounded-on read d xs i h) ∙ ap (λ (k : ℕ). rounded read (take k xs)) (sym (add-one i)));
+        counts = (λ j. c .counts j + f j) ∙ (sym (rounded-on read d xs i h) ∙ ap (λ (k : ℕ). roundedCount read (take k xs)) (sym (add-one i)));
         few = let q = mark-le (read (getD xs i d)) in omega (arith, c .few);
       }
 
-  pub counting-ends : (n i : ℕ) → Counting n i → length xs ≤ i → n ≡ rounded read xs
-  counting-ends n i c h = c .counts ∙ ap (rounded read) (take-all i xs h)
+  pub counting-ends : {n i : ℕ} → Counting read xs n i → length xs ≤ i → n ≡ roundedCount read xs
+  counting-ends {n} {i} c h = c .counts ∙ ap (roundedCount read) (take-all i xs h)
 
 -- ---- the whole run
-module _ {A : Type 0} (read : A → Reading) (xs : List A) (room : ℕ) where
-  pub reference-out : (b : Bool) → b ≡ false → Check.Refused OutOfRange 0 ≡ runCheck read b xs room
-  unfolding runCheck
-  reference-out b e = ap (λ (t : Bool). cond t (cond (ltb room (length xs)) (Check.Refused NoRoom 0) (checked read xs)) (Check.Refused OutOfRange 0)) (sym e)
+-- the check of a run, or of its offsets where nothing is refused before
+abbrev pub orElse : Check → Check → Check
+orElse Check.AllRead offsets = offsets
+orElse (Check.Refused r place) offsets = Check.Refused r place
 
-  pub no-room : (b : Bool) → b ≡ true → room < length xs → Check.Refused NoRoom 0 ≡ runCheck read b xs room
-  unfolding runCheck
-  no-room b e h = (λ i. cond (sym e i) (cond (sym (lt-ltb room (length xs) h) i) (Check.Refused NoRoom 0) (checked read xs)) (Check.Refused OutOfRange 0))
-
-  pub by-offsets : (b : Bool) → b ≡ true → length xs ≤ room → checked read xs ≡ runCheck read b xs room
-  unfolding runCheck
-  by-offsets b e h = (λ i. cond (sym e i) (cond (sym (le-ltb room (length xs) h) i) (Check.Refused NoRoom 0) (checked read xs)) (Check.Refused OutOfRange 0))
-
-  -- where the run comes to nothing else, the reference is in the range, there is room, and every offset is read
-  pub record Passed (b : Bool) : Type 0 where
-    pub reference : b ≡ true
-    pub fits : length xs ≤ room
-    pub all-read : checked read xs ≡ Check.AllRead
-
-  pub passed : (b : Bool) → runCheck read b xs room ≡ Check.AllRead → Passed b
-  unfolding runCheck
-  passed b e = go (ltb room (length xs)) b refl e
+module _ (check : AxisCheck) (n room : ℕ) where
+  pub opened : (first k offsets : Check) → first ≡ checkedFirst check n room Check.AllRead → first ≡ k → orElse k offsets ≡ checkedFirst check n room offsets
+  unfolding checkedFirst
+  opened first k offsets e g = ap (λ (s : Check). orElse s offsets) (sym g ∙ e) ∙ go check (ltb room n)
     where
-      go : (t b : Bool) → ltb room (length xs) ≡ t → cond b (cond t (Check.Refused NoRoom 0) (checked read xs)) (Check.Refused OutOfRange 0) ≡ Check.AllRead → Passed b
-      go true true f h = absurd (let k : _≡_ {A = ℕ} 0 1 = cc in omega arith)
-      go true false f h = absurd (let k : _≡_ {A = ℕ} 0 1 = cc in omega arith)
-      go false false f h = absurd (let k : _≡_ {A = ℕ} 0 1 = cc in omega arith)
-      go false true f h = record { reference = refl; fits = ltb-false room (length xs) f; all-read = h }
+      go : (a : AxisCheck) (t : Bool) → orElse (onGood a (λ r. Check.Refused r 0) (cond t (Check.Refused NoRoom 0) Check.AllRead)) offsets ≡ onGood a (λ r. Check.Refused r 0) (cond t (Check.Refused NoRoom 0) offsets)
+      go (AxisCheck.Refused r) t = refl
+      go AxisCheck.Good true = refl
+      go AxisCheck.Good false = refl
+
+  -- where nothing is refused, the axis is good, there is room, and every offset is read
+  pub record Passed (offsets : Check) : Type 0 where
+    pub good : check ≡ AxisCheck.Good
+    pub fits : n ≤ room
+    pub all-read : offsets ≡ Check.AllRead
+
+  pub passed : (offsets : Check) → checkedFirst check n room offsets ≡ Check.AllRead → Passed offsets
+  unfolding checkedFirst
+  passed offsets e = go check (ltb room n) refl refl e
+    where
+      go : (a : AxisCheck) (t : Bool) → check ≡ a → ltb room n ≡ t → onGood a (λ r. Check.Refused r 0) (cond t (Check.Refused NoRoom 0) offsets) ≡ Check.AllRead → Passed offsets
+      go (AxisCheck.Refused r) t f g h = absurd (let k : _≡_ {A = ℕ} 0 1 = cc in omega arith)
+      go AxisCheck.Good true f g h = absurd (let k : _≡_ {A = ℕ} 0 1 = cc in omega arith)
+      go AxisCheck.Good false f g h = record { good = f; fits = ltb-false room n g; all-read = h }
+
+-- the answer and the destination of a run that comes to s, once it is told that this is k
+module _ {check k s : Check} (e : check ≡ s) (g : check ≡ k) where
+  pub answered : {a : RunAnswer} (n r n′ r′ : ℕ) → a ≡ checkAnswer check n′ r′ → checkAnswer k n′ r′ ≡ checkAnswer k n r → a ≡ checkAnswer s n r
+  answered n r n′ r′ h t = h ∙ (ap (λ (q : Check). checkAnswer q n′ r′) g ∙ (t ∙ ap (λ (q : Check). checkAnswer q n r) (sym g ∙ e)))
+
+  pub left : (written kept : List ℤ) → chosen k written kept ≡ chosen s written kept
+  left written kept = ap (λ (q : Check). chosen q written kept) (sym g ∙ e)

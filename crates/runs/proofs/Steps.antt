@@ -1,47 +1,95 @@
--- Offsets by what they move on an axis: whole ones, and in calendar mode doubles that are whole.
+-- The reading of an offset by what offsets move on an axis: what the elements of a run give is what the axis reads.
 use mathlib.Core.Path.{_≡_, refl, sym, ap, _∙_}
-use mathlib.Core.Bool.{Bool, true, cond}
+use mathlib.Core.Bool.{Bool, true, cond, false≢true}
+use mathlib.Core.List.{List}
+use Prim.Native.Nat.{ℕ, _+_, _<_}
 use lib.IntN.{ℤ}
-use lib.Ieee.{Float}
-use Rattle.axis_types.specs.declared.Mode.{Mode}
-use Rattle.instant.specs.Instant.{inRange}
-use Rattle.double.specs.Whole.{wholeOf}
-use Rattle.axis_types.specs.declared.Reading.{Reading}
-use Rattle.double.specs.declared.whole.Whole.{Whole}
-use Rattle.axis.specs.Axis.{readStep, asWhole, readWholeOn, readDoubleOn}
-use Rattle.axis.specs.Start.{stepOn, byWhole}
-use Rattle.axis.specs.declared.Step.{Step}
-use Rattle.axis.proofs.Demands.{on-step, whole-exact, whole-double, refused-double}
+use lib.ListN.{length, getD, set}
+use lib.Ieee.{Float, nan}
+use mir.Syntax.{w64}
+use mir.Val.{SFits, toZ, ofZ}
+use mir.ValLaws.{toZ-ofZ}
 use Rattle.axis_types.specs.declared.Axis.{Axis}
+use Rattle.axis_types.specs.declared.Mode.{Mode}
+use Rattle.axis_types.specs.declared.Reading.{Reading}
+use Rattle.axis_types.specs.Reading.{instantOf, isRead}
+use Rattle.double.specs.Whole.{wholeOf}
+use Rattle.double.specs.declared.whole.Whole.{Whole}
+use Rattle.fixed_axis.specs.Fixed.{timeAfter, readWhole}
+use Rattle.fixed_axis.proofs.Offsets.{read-time}
+use Rattle.step.specs.declared.reached.Part.{Part}
+use Rattle.axis.specs.Axis.{readStep, asWhole, readWholeOn, readDoubleOn, axisCheck}
+use Rattle.axis.specs.Start.{stepOn, readPart, movedFrom}
+use Rattle.axis.specs.declared.AxisCheck.{AxisCheck}
+use Rattle.axis.specs.declared.Step.{Step}
+use Rattle.axis.specs.declared.moved.Start.{Start}
+use Rattle.axis.proofs.Demands.{on-step, whole-exact, whole-double, refused-double}
+use Rattle.axis.proofs.Good.{good-reference}
+use Rattle.axis.proofs.Moving.{moved-from}
+use Rattle.run_ends.specs.Ends.{wholeNumber}
+use Rattle.runs.specs.Passes.{stepBy, Begins}
 use Rattle.runs.specs.Run.{markOf}
+use Rattle.runs.proofs.Passes.{Writing, writing-read, writing-on}
 
 -- ---- whole offsets
--- the reading, once it is known what they move
-pub read-by : (axis : Axis) (s : Step) (R : ℤ) → stepOn axis ≡ s → R ≡ axis .reference → readStep s (axis .calendar) (axis .period) R ≡ readWholeOn axis
-read-by axis s R e r = λ i n. sym (on-step axis n ∙ (λ j. readStep (e j) (axis .calendar) (axis .period) (sym r j) n)) i
+module _ (axis : Axis) (n : ℤ) where
+  by-step : (s : Step) → stepOn axis ≡ s → readStep s (axis .calendar) (axis .period) (axis .reference) n ≡ readWholeOn axis n
+  by-step s e = sym (on-step axis n ∙ ap (λ (t : Step). readStep t (axis .calendar) (axis .period) (axis .reference) n) e)
 
--- a whole offset is never rounded
-pub whole-unmarked : (axis : Axis) (n : ℤ) → markOf (readWholeOn axis n) ≡ 0
-whole-unmarked axis n = go (readWholeOn axis n) refl
-  where
-    go : (r : Reading) → readWholeOn axis n ≡ r → markOf r ≡ 0
-    go (Reading.At t exact) h = ap (λ (b : Bool). cond b 0 1) (whole-exact axis n t exact h)
-    go (Reading.Refused r) h = refl
+  -- that move the time
+  pub by-time : stepOn axis ≡ Step.Time → readWhole (axis .calendar) (axis .period) (axis .reference) n ≡ readWholeOn axis n
+  by-time = by-step Step.Time
+
+  pub time-is : stepOn axis ≡ Step.Time → isRead (readWholeOn axis n) ≡ true → timeAfter (axis .period) (axis .reference) n ≡ instantOf (readWholeOn axis n)
+  time-is e h = ap instantOf (sym (read-time (axis .calendar) (axis .period) (axis .reference) n (ap isRead (by-time e) ∙ h)) ∙ by-time e)
+
+  -- that move a part of the date
+  pub by-part : (part : Part) (start : Start) → Begins axis part start → movedFrom (axis .calendar) part (start .date) (start .time) n ≡ readWholeOn axis n
+  by-part part start b =
+      (λ j. movedFrom (axis .calendar) part (b .start .date j) (b .start .time j) n)
+      ∙ (moved-from (axis .calendar) part (axis .reference) n (good-reference axis (b .good)) ∙ (moves part ∙ by-step (stepBy part) (b .step)))
+    where
+      moves : (q : Part) → readPart (axis .calendar) q (axis .reference) n ≡ readStep (stepBy q) (axis .calendar) (axis .period) (axis .reference) n
+      moves Part.Month = refl
+      moves Part.Year = refl
+
+  -- a whole offset is never rounded
+  pub whole-unmarked : markOf (readWholeOn axis n) ≡ 0
+  whole-unmarked = go (readWholeOn axis n) refl
+    where
+      go : (r : Reading) → readWholeOn axis n ≡ r → markOf r ≡ 0
+      go (Reading.At t exact) h = ap (λ (b : Bool). cond b 0 1) (whole-exact axis n t exact h)
+      go (Reading.Refused r) h = refl
 
 -- ---- doubles in calendar mode
-module _ (axis : Axis) (m : axis .mode ≡ Mode.Calendar) (h : inRange (axis .calendar) (axis .reference) ≡ true) where
+module _ (axis : Axis) (g : axisCheck axis ≡ AxisCheck.Good) (m : axis .mode ≡ Mode.Calendar) (x : Float) where
+  by-whole : (w : Whole) → wholeOf x ≡ w → readDoubleOn axis x ≡ asWhole w (readWholeOn axis)
+  by-whole (Whole.Is n) e = whole-double axis x n m e
+  by-whole (Whole.Refused r) e = refused-double axis x r m (good-reference axis g) e
+
   -- they are read as the whole offsets that they are
-  pub by-whole : byWhole (readWholeOn axis) ≡ readDoubleOn axis
-  by-whole = λ i x. go x (wholeOf x) refl i
+  as-whole : isRead (readDoubleOn axis x) ≡ true → readWholeOn axis (wholeNumber (wholeOf x)) ≡ readDoubleOn axis x
+  as-whole h = go (wholeOf x) (ap isRead (sym (by-whole (wholeOf x) refl)) ∙ h) ∙ sym (by-whole (wholeOf x) refl)
     where
-      go : (x : Float) (w : Whole) → wholeOf x ≡ w → asWhole w (readWholeOn axis) ≡ readDoubleOn axis x
-      go x (Whole.Is n) e = sym (whole-double axis x n m e)
-      go x (Whole.Refused r) e = sym (refused-double axis x r m h e)
+      go : (w : Whole) → isRead (asWhole w (readWholeOn axis)) ≡ true → readWholeOn axis (wholeNumber w) ≡ asWhole w (readWholeOn axis)
+      go (Whole.Is n) e = refl
+      go (Whole.Refused r) e = absurd (false≢true e)
 
   -- and never rounded
-  pub double-unmarked : (x : Float) → markOf (readDoubleOn axis x) ≡ 0
-  double-unmarked x = ap (λ (read : Float → Reading). markOf (read x)) (sym by-whole) ∙ go (wholeOf x)
+  pub double-unmarked : markOf (readDoubleOn axis x) ≡ 0
+  double-unmarked = ap markOf (by-whole (wholeOf x) refl) ∙ go (wholeOf x)
     where
       go : (w : Whole) → markOf (asWhole w (readWholeOn axis)) ≡ 0
       go (Whole.Is n) = whole-unmarked axis n
       go (Whole.Refused r) = refl
+
+-- a double as the whole offset that crosses into a call
+module _ (axis : Axis) (g : axisCheck axis ≡ AxisCheck.Good) (m : axis .mode ≡ Mode.Calendar) {xs : List Float} {ds now : List ℤ} {i : ℕ} (w : Writing (readDoubleOn axis) xs ds now i) (h : i < length xs) {n : ℤ} (f : SFits w64 n) (e : n ≡ wholeNumber (wholeOf (getD xs i nan))) where
+  crosses : readWholeOn axis (toZ w64 (ofZ w64 n)) ≡ readDoubleOn axis (getD xs i nan)
+  crosses = ap (readWholeOn axis) (toZ-ofZ w64 n f ∙ e) ∙ as-whole axis g m (getD xs i nan) (writing-read nan w h)
+
+  pub double-read : isRead (readWholeOn axis (toZ w64 (ofZ w64 n))) ≡ true
+  double-read = ap isRead crosses ∙ writing-read nan w h
+
+  pub double-written : {t : ℤ} → SFits w64 t → t ≡ instantOf (readWholeOn axis (toZ w64 (ofZ w64 n))) → Writing (readDoubleOn axis) xs ds (set now i (toZ w64 (ofZ w64 t))) (i + 1)
+  double-written k v = writing-on nan w h k (v ∙ ap instantOf crosses)

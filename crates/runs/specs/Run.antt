@@ -1,15 +1,17 @@
 -- A lent run of offsets read at once, all or nothing: document 01's paragraph on runs.
 -- The offsets are of any kind A, doubles or whole numbers, and `read` is the reading of one offset alone: a run has no reading of its own.
-use mathlib.Core.Bool.{Bool, cond}
+use mathlib.Core.Bool.{cond}
 use mathlib.Core.List.{List, [], _∷_, _++_, map}
 use Prim.Native.Nat.{ℕ, suc, _+_}
 use lib.Dec.{ltb}
 use lib.IntN.{ℤ}
 use lib.ListN.{length, drop}
 use Rattle.refusal.specs.Number.{numberOf as refusalNumber}
-use Rattle.refusal.specs.declared.Refusal.the-variants.{OutOfRange, NoRoom}
+use Rattle.refusal.specs.declared.Refusal.the-variants.{NoRoom}
 use Rattle.axis_types.specs.Reading.{instantOf}
 use Rattle.axis_types.specs.declared.Reading.{Reading}
+use Rattle.axis.specs.Axis.{onGood}
+use Rattle.axis.specs.declared.AxisCheck.{AxisCheck}
 use Rattle.runs.specs.declared.Check.{Check}
 use Rattle.runs.specs.declared.RunAnswer.{RunAnswer}
 
@@ -31,32 +33,35 @@ module _ {A : Type 0} (read : A → Reading) where
   checked (x ∷ xs) = after (read x) (checked xs)
 
   -- how many offsets are rounded
-  unfoldable pub rounded : List A → ℕ
-  rounded [] = 0
-  rounded (x ∷ xs) = markOf (read x) + rounded xs
+  unfoldable pub roundedCount : List A → ℕ
+  roundedCount [] = 0
+  roundedCount (x ∷ xs) = markOf (read x) + roundedCount xs
 
   -- the destination ds with the instants of xs: each at its own offset's place, and the places beyond as they were
-  abbrev pub overlaid : List A → List ℤ → List ℤ
+  unfoldable pub overlaid : List A → List ℤ → List ℤ
   overlaid xs ds = map (λ (x : A). instantOf (read x)) xs ++ drop (length xs) ds
 
--- ---- the run xs, lent the destination ds; `reference` tells whether the axis's reference lies in the range
--- what the run comes to: refused for the reference, then for the room, then for its first refused offset
-unfoldable pub runCheck : {A : Type 0} → (A → Reading) → Bool → List A → ℕ → Check
-runCheck read reference xs room = cond reference (cond (ltb room (length xs)) (Check.Refused NoRoom 0) (checked read xs)) (Check.Refused OutOfRange 0)
+-- ---- the run xs on an axis of that check, lent the destination ds
+-- refused for the axis, then for the room, else as the offsets are
+unfoldable pub checkedFirst : AxisCheck → ℕ → ℕ → Check → Check
+checkedFirst check length room offsets = onGood check (λ r. Check.Refused r 0) (cond (ltb room length) (Check.Refused NoRoom 0) offsets)
 
-abbrev pub answerOf : Check → ℕ → ℕ → RunAnswer
-answerOf Check.AllRead length rounded = record { number = 0; place = 0; length = length; rounded = rounded }
-answerOf (Check.Refused r place) length rounded = record { number = refusalNumber r; place = place; length = 0; rounded = 0 }
+abbrev pub runCheck : {A : Type 0} → (A → Reading) → AxisCheck → List A → ℕ → Check
+runCheck read check xs room = checkedFirst check (length xs) room (checked read xs)
+
+abbrev pub checkAnswer : Check → ℕ → ℕ → RunAnswer
+checkAnswer Check.AllRead length rounded = record { number = 0; place = 0; length = length; rounded = rounded }
+checkAnswer (Check.Refused r place) length rounded = record { number = refusalNumber r; place = place; length = 0; rounded = 0 }
 
 abbrev pub chosen : Check → List ℤ → List ℤ → List ℤ
 chosen Check.AllRead written kept = written
 chosen (Check.Refused r place) written kept = kept
 
-module _ {A : Type 0} (read : A → Reading) (reference : Bool) (xs : List A) (ds : List ℤ) where
+module _ {A : Type 0} (read : A → Reading) (check : AxisCheck) (xs : List A) (ds : List ℤ) where
   -- the answer
   abbrev pub runAnswer : RunAnswer
-  runAnswer = answerOf (runCheck read reference xs (length ds)) (length xs) (rounded read xs)
+  runAnswer = checkAnswer (runCheck read check xs (length ds)) (length xs) (roundedCount read xs)
 
   -- the destination afterwards
   abbrev pub runWritten : List ℤ
-  runWritten = chosen (runCheck read reference xs (length ds)) (overlaid read xs ds) ds
+  runWritten = chosen (runCheck read check xs (length ds)) (overlaid read xs ds) ds

@@ -1,74 +1,53 @@
 -- `runs::read_wholes` meets its contract: the answer and the destination by what the run comes to.
-use mathlib.Core.Path.{_≡_, sym, ap, _∙_}
-use Prim.Native.Nat.{ℕ}
+use mathlib.Core.Path.{refl, sym, ap, _∙_}
 use lib.ListN.{length}
-use Rattle.instant.specs.Instant.{inRange}
-use Rattle.axis.specs.Axis.{readWholeOn}
+use Rattle.axis.specs.Axis.{readWholeOn, axisCheck}
 use Rattle.runs.specs.declared.Check.{Check}
-use Rattle.runs.specs.Run.{rounded, overlaid, runCheck, answerOf, chosen}
-use Rattle.runs.proofs.Passes.{passed, none-rounded}
+use Rattle.runs.specs.Run.{roundedCount, checkAnswer}
+use Rattle.runs.proofs.Passes.{none-rounded, passed, answered, left}
 use Rattle.runs.proofs.Steps.{whole-unmarked}
 use borrow.Author.Needs.{needs}
 use Rattle.runs.proofs.read_wholes.Statement.{statement}
 use Rattle.runs.proofs.read_wholes.Tie as tie
 
-module _ (c : tie.After-check-wholes) where
-  abbrev start : tie.Start
-  start = c .before
-
-  is-checked : c .check-wholes .result ≡ runCheck (readWholeOn (start .args .axis)) (inRange (start .args .axis .calendar) (start .args .axis .reference)) (start .args .source .now) (length (start .args .destination .now))
-  is-checked = c .check-wholes .ensures
-
-check-wholes-requires : tie.Need-check-wholes-requires
-check-wholes-requires c κs = search needs
-
-enum-known-checked : tie.Need-enum-known-checked
-enum-known-checked c = search needs
-
-number-requires : tie.Need-number-requires
-number-requires c κs = search needs
-
-enum-told : tie.Need-enum-told
-enum-told c = search needs
-
 write-wholes-requires : tie.Need-write-wholes-requires
 write-wholes-requires c κs =
-    let m = c .before .before .before in
-    let a = start m in
-    let p = passed (readWholeOn (a .args .axis)) (a .args .source .now) (length (a .args .destination .now)) (inRange (a .args .axis .calendar) (a .args .axis .reference)) (sym (is-checked m) ∙ c .before .enum-told .given .1) in
-    (p .fits, (p .reference, p .all-read))
+    let m = c .before in
+    let o = m .before .before in
+    let a = o .before .args in
+    let p = passed (axisCheck (a .axis)) (length (a .source .now)) (length (a .destination .now)) _ (sym (o .check-wholes .ensures) ∙ m .enum-told2 .given .1) in
+    (p .fits, (p .good, p .all-read))
 
 returns : tie.Need-returns
 returns c =
-    let m = c .before .before .before .before in
-    let a = start m in
-    let e = sym (c .before .before .checked .given .1) ∙ is-checked m in
-    let n = length (a .args .source .now) in
-    let r = rounded (readWholeOn (a .args .axis)) (a .args .source .now) in
-    (ap (λ (q : ℕ). record { number = q; place = c .before .before .checked .given .0 .1 .0; length = 0; rounded = 0 }) (c .number .ensures) ∙ ap (λ (s : Check). answerOf s n r) e, ap (λ (s : Check). chosen s (overlaid (readWholeOn (a .args .axis)) (a .args .source .now) (a .args .destination .now)) (a .args .destination .now)) e)
-
-same-length : tie.Need-same-length
-same-length c = search needs
+    let m = c .before in
+    let o = m .before .before in
+    let a = o .before .args in
+    let e = o .check-wholes .ensures in
+    let g = m .enum-told .given .1 in
+    (answered e g (length (a .source .now)) (roundedCount (readWholeOn (a .axis)) (a .source .now)) 0 0 (c .answer .ensures) refl, left e g _ (a .destination .now))
 
 returns-2 : tie.Need-returns-2
 returns-2 c =
-    let m = c .before .before .before .before .before in
-    let a = start m in
-    let read = readWholeOn (a .args .axis) in
-    let xs = a .args .source .now in
-    let ds = a .args .destination .now in
-    let e = sym (c .before .before .before .enum-told .given .1) ∙ is-checked m in
-    (ap (λ (q : ℕ). answerOf Check.AllRead (length xs) q) (sym (none-rounded read (whole-unmarked (a .args .axis)) xs)) ∙ ap (λ (s : Check). answerOf s (length xs) (rounded read xs)) e, c .before .write-wholes .ensures ∙ ap (λ (s : Check). chosen s (overlaid read xs ds) ds) e)
+    let w = c .before .before in
+    let m = w .before .before in
+    let o = m .before .before in
+    let a = o .before .args in
+    let e = o .check-wholes .ensures in
+    let g = m .enum-told2 .given .1 in
+    let n = length (a .source .now) in
+    (answered e g n (roundedCount (readWholeOn (a .axis)) (a .source .now)) n _ (c .answer2 .ensures) (ap (checkAnswer Check.AllRead n) (sym (none-rounded (readWholeOn (a .axis)) (whole-unmarked (a .axis)) (a .source .now)))), w .write-wholes .ensures ∙ left e g _ (a .destination .now))
 
 pub read-wholes-spec : {M : Type 1} → statement M
 read-wholes-spec =
     tie.close
     (tie.spec
-    check-wholes-requires
-    enum-known-checked
-    number-requires
-    enum-told
-    write-wholes-requires
+    (λ c κs. search needs)
+    (λ c. search needs)
+    (λ c κs. search needs)
     returns
-    same-length
+    (λ c. search needs)
+    write-wholes-requires
+    (λ c κs. search needs)
+    (λ c. search needs)
     returns-2)

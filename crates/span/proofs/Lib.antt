@@ -1,3 +1,0 @@
-pub mod Pass
-pub mod Floats
-pub mod Within
