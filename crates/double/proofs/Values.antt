@@ -18,7 +18,7 @@ use Rattle.double.specs.declared.Pattern.{Pattern}
 use Rattle.double.specs.declared.Displacement.{Displacement}
 use Rattle.double.specs.Nearest.{withSign}
 use Rattle.double.specs.Displacement.{DisplacementOf, IsSmall, IsLarge, IsNotFinite}
-use Rattle.double.specs.Fields.{patternOf, Displaced}
+use Rattle.double.specs.Fields.{patternOf, PatternDisplacement}
 use Rattle.double.proofs.Bits.{signOf, fieldOf, sizeOf, finite, value, not-finite}
 
 -- a size with its sign is no larger
@@ -75,8 +75,8 @@ module _ (x : Float) (F : T (fits binary64 x)) (P : ℕ) where
     unfolding IsSmall
     small-is g = subst (λ (k : ℕ). k < 2 ^ 60) (at .size) (subst (λ (k : Float). IsSmall P k) (at .is) g)
 
-    pub counted : (p : Pattern) → p ≡ patternOf x → (d : Displacement) → Displaced d p P → DisplacementOf d P x
+    pub counted : (p : Pattern) → p ≡ patternOf x → (d : Displacement) → PatternDisplacement d p P → DisplacementOf d P x
     unfolding DisplacementOf
     counted p e d v =
-        let w : Displaced d (patternOf x) P = subst (λ (k : Pattern). Displaced d k P) e v in
+        let w : PatternDisplacement d (patternOf x) P = subst (λ (k : Pattern). PatternDisplacement d k P) e v in
         subst (λ (k : Float). DisplacementOf d P k) (sym (at .is)) (w .count ∙ ap (withSign (signOf x)) (sym (at .size)), w .exact ∙ sym (at .exact))

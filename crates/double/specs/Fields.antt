@@ -28,7 +28,7 @@ abbrev pub fieldSize : ℕ → ℕ → ℕ
 fieldSize field t = significand field t * 2 ^ weight field
 
 -- d is the displacement that the pattern p of a finite double stands for
-pub record Displaced (d : Displacement) (p : Pattern) (P : ℕ) : Type 0 where
+pub record PatternDisplacement (d : Displacement) (p : Pattern) (P : ℕ) : Type 0 where
   pub count : d .count ≡ withSign (p .negative) (closest (fieldSize (p .field) (p .digits) * P) (2 ^ 1074))
   pub exact : d .exact ≡ isExact (fieldSize (p .field) (p .digits) * P) (2 ^ 1074)
   pub small : mag (d .count) ≤ 2 ^ 62

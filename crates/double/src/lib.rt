@@ -10,7 +10,7 @@ ghost use lib.Signed.{mag};
 ghost use Rattle.rounding.specs.Rounding.{RoundedTo};
 ghost use Rattle.double.specs.Nearest.{withSign};
 ghost use Rattle.double.specs.Displacement.{IsScale, IsSmall, DisplacementOf, DisplacementAnswerOf};
-ghost use Rattle.double.specs.Fields.{patternOf, fieldSize, Displaced};
+ghost use Rattle.double.specs.Fields.{patternOf, fieldSize, PatternDisplacement};
 use rounding::Rounded;
 
 pub mod whole;
@@ -97,10 +97,10 @@ pub fn signed_size(negative: bool, n: u64) -> i64
 }
 
 // The nearest displacement of a finite double that is not too large for a scale, by its pattern.
-fn displaced(p: Pattern, scale: Scale) -> Displacement
+fn pattern_displacement(p: Pattern, scale: Scale) -> Displacement
     requires scaled { ⌜ IsScale scale ⌝ }
     requires near { ⌜ (p .field < 1021 + scale .shift) × (p .digits < 2 ^ 52) ⌝ }
-    ensures { λ d. ⌜ Displaced d p (scale .micros) ⌝ }
+    ensures { λ d. ⌜ PatternDisplacement d p (scale .micros) ⌝ }
 {
     let r = scaled_size(p.field, p.digits, scale);
     Displacement {
@@ -115,7 +115,7 @@ pub fn small_displacement(scale: Scale, x: f64) -> Displacement
     requires small { ⌜ IsSmall (scale .micros) x ⌝ }
     ensures { λ d. ⌜ DisplacementOf d (scale .micros) x × (mag (d .count) ≤ 2 ^ 62) ⌝ }
 {
-    displaced(pattern_of(x), scale)
+    pattern_displacement(pattern_of(x), scale)
 }
 
 // The nearest displacement of any double. A field of all ones is an infinity's.
@@ -133,5 +133,5 @@ pub fn displacement_of(scale: Scale, x: f64) -> DisplacementAnswer
     if 1021 + scale.shift <= p.field {
         return DisplacementAnswer::Large;
     }
-    DisplacementAnswer::Is(displaced(p, scale))
+    DisplacementAnswer::Is(pattern_displacement(p, scale))
 }

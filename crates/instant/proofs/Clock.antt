@@ -1,22 +1,23 @@
 -- The time of day of fields, and the instant of a day and a time.
 use mathlib.Core.Path.{_≡_, sym, ap, _∙_, subst}
 use mathlib.Core.Bool.{true, _&&_}
-use Prim.Native.Nat.{ℕ, _+_, _-_, _*_, _≤_, _<_}
+use Prim.Native.Nat.{ℕ, suc, _+_, _-_, _*_, _≤_, _<_}
 use native.Mathlib.Omega.{arith}
 use lib.Dec.{ltb}
-use lib.IntN.{ℤ}
-use lib.Signed.{mag}
-use borrow.Author.Tests.{ltb-true}
+use lib.IntN.{ℤ, pos, negsuc}
+use lib.Signed.{mag, leZ}
+use borrow.Author.Tests.{ltb-true, leb-true}
 use Rattle.signed.specs.Bias.{lower}
 use Rattle.signed.proofs.Tests.{and-parts}
-use Rattle.signed.proofs.Differences.{by-sign, same-diff, times-plus}
+use Rattle.signed.proofs.Differences.{by-sign, sub-low, sub-high, same-diff, times-plus}
+use Rattle.calendar.specs.Closed.{epochDay, firstDay, endDay}
 use Rattle.calendar.specs.Calendar.{dateOf, inYears}
 use Rattle.calendar.specs.Answers.{dayAnswer}
 use Rattle.calendar.specs.declared.Calendar.{Calendar}
 use Rattle.calendar.specs.declared.Date.{Date}
 use Rattle.calendar.specs.declared.DayAnswer.{DayAnswer}
-use Rattle.calendar.proofs.Range.{Near, near}
-use Rattle.calendar.proofs.Theorems.{answered}
+use Rattle.calendar.proofs.Range.{small, lowDay, highDay}
+use Rattle.calendar.proofs.Theorems.{range, answered}
 use Rattle.instant.specs.Instant.{isClock, clockTime, instantAt}
 use Rattle.instant.specs.declared.Fields.{Fields}
 
@@ -37,11 +38,13 @@ pub clock-small : (f : Fields) → isClock f ≡ true → clockTime f < 86400000
 clock-small f h = let c = clock-of f h in omega (arith, c .hour, c .minute, c .second, c .microsecond)
 
 -- ---- day numbers of the years -9999 to 9999
-near-small : (z : ℤ) → Near z → mag z < 5000000
-near-small z n = subst (λ (w : ℤ). mag w < 5000000) (n .is) (by-sign (λ (w : ℤ). mag w < 5000000) (n .number) 5000000 (λ h. omega arith) (λ h. omega (arith, n .low)))
-
 pub day-small : (c : Calendar) (z : ℤ) → inYears (dateOf c z .year) ≡ true → mag z < 5000000
-day-small c z h = near-small z (near c z h)
+day-small c (pos n) h =
+    let w = and-parts (leZ (lowDay c) (pos n)) (leZ (pos n) (highDay c)) (sym (range c (pos n)) ∙ h) .1 in
+    omega (arith, small c, leb-true n (endDay c - 1 - epochDay c) (ap (leZ (pos n)) (sym (sub-high (endDay c - 1) (epochDay c) (omega (arith, small c)))) ∙ w))
+day-small c (negsuc n) h =
+    let w = and-parts (leZ (lowDay c) (negsuc n)) (leZ (negsuc n) (highDay c)) (sym (range c (negsuc n)) ∙ h) .0 in
+    omega (arith, small c, leb-true n (epochDay c - suc (firstDay c)) (ap (λ (z : ℤ). leZ z (negsuc n)) (sym (sub-low (firstDay c) (epochDay c) (omega (arith, small c)))) ∙ w))
 
 pub answered-small : (c : Calendar) (x : Date) (z : ℤ) → DayAnswer.Is z ≡ dayAnswer c x → mag z < 5000000
 answered-small c x z h = let n = answered c x z h in day-small c z (ap (λ (d : Date). inYears (d .year)) (n .is) ∙ n .inside)

@@ -54,14 +54,14 @@ returns-3 c =
     large-is (a q .args .x) (held (a q)) (a q .args .scale .micros) (finite-field d)
     (large (a q .args .scale) (a q .pre) (fieldOf (a q .args .x)) (digitsOf (a q .args .x)) (le-trans (c .if3 .taken) (le-of-eq (field-is q))))
 
-displaced-requires : tie.Need-displaced-requires
-displaced-requires c κs = let q = c .before .before .before .before .before in (a q .pre, (c .if3 .left, short q))
+pattern-displacement-requires : tie.Need-pattern-displacement-requires
+pattern-displacement-requires c κs = let q = c .before .before .before .before .before in (a q .pre, (c .if3 .left, short q))
 
 returns-4 : tie.Need-returns-4
 returns-4 c =
     let d = c .before .before .before .before in
     let q = d .before .before in
-    (counted (a q .args .x) (held (a q)) (a q .args .scale .micros) (finite-field d) (p q) (q .pattern-of .ensures) (c .displaced .result) (c .displaced .ensures), c .displaced .ensures .small)
+    (counted (a q .args .x) (held (a q)) (a q .args .scale .micros) (finite-field d) (p q) (q .pattern-of .ensures) (c .pattern-displacement .result) (c .pattern-displacement .ensures), c .pattern-displacement .ensures .small)
 
 pub displacement-of-spec : {M : Type 1} → statement M
 displacement-of-spec =
@@ -72,5 +72,5 @@ displacement-of-spec =
     returns-2
     add-if3
     returns-3
-    displaced-requires
+    pattern-displacement-requires
     returns-4)

@@ -30,14 +30,14 @@ near c =
 pattern-of-requires : tie.Need-pattern-of-requires
 pattern-of-requires c κs = small-number (c .args .scale .micros) (c .args .x) (c .pre .1)
 
-displaced-requires : tie.Need-displaced-requires
-displaced-requires c κs = (c .before .pre .0, (near c, given-short (c .before .args .x) (c .pattern-of .result) (c .pattern-of .ensures)))
+pattern-displacement-requires : tie.Need-pattern-displacement-requires
+pattern-displacement-requires c κs = (c .before .pre .0, (near c, given-short (c .before .args .x) (c .pattern-of .result) (c .pattern-of .ensures)))
 
 returns : tie.Need-returns
 returns c =
     let p = c .before in
     let a = p .before in
-    (counted (a .args .x) (held a) (a .args .scale .micros) (finite-field a) (p .pattern-of .result) (p .pattern-of .ensures) (c .displaced .result) (c .displaced .ensures), c .displaced .ensures .small)
+    (counted (a .args .x) (held a) (a .args .scale .micros) (finite-field a) (p .pattern-of .result) (p .pattern-of .ensures) (c .pattern-displacement .result) (c .pattern-displacement .ensures), c .pattern-displacement .ensures .small)
 
 pub small-displacement-spec : {M : Type 1} → statement M
-small-displacement-spec = tie.close (tie.spec pattern-of-requires displaced-requires returns)
+small-displacement-spec = tie.close (tie.spec pattern-of-requires pattern-displacement-requires returns)

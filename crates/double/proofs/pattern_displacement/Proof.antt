@@ -1,4 +1,4 @@
--- `double::displaced` meets its contract. proofs/Scaling.antt has the bound.
+-- `double::pattern_displacement` meets its contract. proofs/Scaling.antt has the bound.
 use mathlib.Core.Path.{sym, ap, _∙_, subst}
 use Prim.Native.Nat.{_≤_, _^_}
 use native.Mathlib.Nat.{lt-of-le-of-lt, le-trans, le-of-eq}
@@ -11,8 +11,8 @@ use borrow.Author.Needs.{needs}
 use Rattle.double.specs.Nearest.{withSign}
 use Rattle.double.proofs.Scaling.{bounded}
 use Rattle.double.proofs.Values.{signed-le}
-use Rattle.double.proofs.displaced.Statement.{statement}
-use Rattle.double.proofs.displaced.Tie as tie
+use Rattle.double.proofs.pattern_displacement.Statement.{statement}
+use Rattle.double.proofs.pattern_displacement.Tie as tie
 
 count-le : (c : tie.After-scaled-size) → c .scaled-size .result .count ≤ 2 ^ 62
 count-le c =
@@ -36,5 +36,5 @@ returns c =
       small = subst (λ (z : ℤ). mag z ≤ 2 ^ 62) (sym e) (le-trans (signed-le (p .negative) (r .scaled-size .result .count)) (count-le r));
     }
 
-pub displaced-spec : {M : Type 1} → statement M
-displaced-spec = tie.close (tie.spec scaled-size-requires signed-size-requires returns)
+pub pattern-displacement-spec : {M : Type 1} → statement M
+pattern-displacement-spec = tie.close (tie.spec scaled-size-requires signed-size-requires returns)
