@@ -2,6 +2,9 @@
 --   reading         what is demanded of reading whole offsets holds of every good axis
 --   writing         and what is demanded of writing
 --   refused-axis    an axis that is refused refuses every call
+--   whole-exact     a whole offset that is read is exact
+--   whole-between   a whole offset between two that are read is read
+--   double-between  and in fixed mode a double
 --   inexact-none    Inexact only where no offset reads as the instant
 --   moved           in calendar mode the date of the instant is that of the reference, moved at once by all the steps, and the time of day is kept
 --   fixed-double    a double on an axis of fixed mode is read as crate `fixed_axis` reads it, whose proofs/Demands.antt has demand 3
@@ -141,6 +144,9 @@ module _ (a : Axis) where
   whole-good : (n t : ℤ) (exact : Bool) → readWholeOn a n ≡ Reading.At t exact → AxisCheck.Good ≡ axisCheck a
   unfolding readWholeOn
   whole-good n t exact h = read-good (axisCheck a) (wholeOn a n) t exact h
+
+  pub whole-exact : (n t : ℤ) (exact : Bool) → readWholeOn a n ≡ Reading.At t exact → exact ≡ true
+  whole-exact n t exact h = reading (whole-good n t exact h) .exactly n t exact h
 
   pub inexact-none : (t : ℤ) → writeInstantOn a t ≡ OffsetAnswer.Refused Inexact → (n : ℤ) (exact : Bool) → readWholeOn a n ≡ Reading.At t exact → ⊥
   inexact-none t h n exact g = let e = writing (whole-good n t exact g) .read-writes n t exact g in let k : _≡_ {A = ℕ} 0 1 = cc in omega arith

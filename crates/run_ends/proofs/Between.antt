@@ -16,10 +16,8 @@ use Rattle.axis_types.specs.declared.Reading.{Reading}
 use Rattle.axis_types.proofs.Answers.{was-read}
 use Rattle.double.specs.Whole.{wholeOf}
 use Rattle.double.specs.declared.whole.Whole.{Whole}
-use Rattle.fixed_axis.proofs.Between.{double-between}
 use Rattle.axis.specs.Axis.{readDoubleOn, readWholeOn}
-use Rattle.axis.proofs.Between.{whole-between}
-use Rattle.axis.proofs.Demands.{fixed-double, whole-double}
+use Rattle.axis.proofs.Demands.{whole-between, double-between, whole-double}
 use Rattle.run_ends.specs.Ends.{Each, allPass, isNumber, zeroDouble, doubleEnds, endsBy, isWhole, wholeNumber, wholeDoubleEnds}
 use Rattle.run_ends.specs.declared.ends.DoubleEnds.{DoubleEnds}
 use Rattle.run_ends.specs.declared.ends.WholeEnds.{WholeEnds}
@@ -53,8 +51,7 @@ doubles-by-ends axis xs a b m s h =
     parts false l g e = absurd (let k : _≡_ {A = ℕ} 0 1 = cc in omega arith)
 
     between : (x y z : Float) (t u : ℤ) (i j : Bool) → T (le x y) → T (le y z) → readDoubleOn axis x ≡ Reading.At t i → readDoubleOn axis z ≡ Reading.At u j → isRead (readDoubleOn axis y) ≡ true
-    between x y z t u i j f g p q =
-        ap isRead (fixed-double axis y m ∙ double-between (axis .calendar) (axis .period) (axis .reference) x y z t u i j f g (sym (fixed-double axis x m) ∙ p) (sym (fixed-double axis z m) ∙ q) .2)
+    between x y z t u i j f g p q = ap isRead (double-between axis m x y z t u i j f g p q .2)
 
 -- ---- whole offsets on every axis
 module _ {A : Type 0} (axis : Axis) (number : A → ℤ) (good : A → Bool) (xs : List A) (t : allPass good xs ≡ true) (h : (isRead (readWholeOn axis (endsBy number xs .least)) && isRead (readWholeOn axis (endsBy number xs .greatest))) ≡ true) where

@@ -17,24 +17,24 @@ use Rattle.double.specs.Whole.{wholeOf}
 use Rattle.double.specs.declared.whole.Whole.{Whole}
 use Rattle.fixed_axis.specs.Fixed.{timeAfter, readWhole}
 use Rattle.fixed_axis.proofs.Offsets.{read-time}
-use Rattle.step.specs.declared.reached.Part.{Part}
-use Rattle.axis.specs.Axis.{readStep, asWhole, readWholeOn, readDoubleOn, axisCheck}
-use Rattle.axis.specs.Start.{stepOn, readPart, movedFrom}
+use Rattle.step.specs.declared.Part.{Part}
+use Rattle.calendar_axis.specs.Steps.{readFrom}
+use Rattle.calendar_axis.specs.declared.Start.{Start}
+use Rattle.calendar_axis.proofs.Demands.{from-start}
+use Rattle.axis.specs.Axis.{onGood, stepOn, readBy, asWhole, readWholeOn, readDoubleOn, axisCheck}
 use Rattle.axis.specs.declared.AxisCheck.{AxisCheck}
 use Rattle.axis.specs.declared.Step.{Step}
-use Rattle.axis.specs.declared.moved.Start.{Start}
-use Rattle.axis.proofs.Demands.{on-step, whole-exact, whole-double, refused-double}
-use Rattle.axis.proofs.Good.{good-reference}
-use Rattle.axis.proofs.Moving.{moved-from}
+use Rattle.axis.proofs.Demands.{whole-exact, whole-double, refused-double}
 use Rattle.run_ends.specs.Ends.{wholeNumber}
-use Rattle.runs.specs.Passes.{stepBy, Begins}
+use Rattle.runs.specs.Passes.{Begins}
 use Rattle.runs.specs.Run.{markOf}
 use Rattle.runs.proofs.Passes.{Writing, writing-read, writing-on}
 
 -- ---- whole offsets
-module _ (axis : Axis) (n : ℤ) where
-  by-step : (s : Step) → stepOn axis ≡ s → readStep s (axis .calendar) (axis .period) (axis .reference) n ≡ readWholeOn axis n
-  by-step s e = sym (on-step axis n ∙ ap (λ (t : Step). readStep t (axis .calendar) (axis .period) (axis .reference) n) e)
+module _ (axis : Axis) (g : axisCheck axis ≡ AxisCheck.Good) (n : ℤ) where
+  by-step : (s : Step) → stepOn axis ≡ s → readBy s (axis .calendar) (axis .period) (axis .reference) n ≡ readWholeOn axis n
+  unfolding readWholeOn
+  by-step s e = λ i. onGood (sym g i) Reading.Refused (readBy (sym e i) (axis .calendar) (axis .period) (axis .reference) n)
 
   -- that move the time
   pub by-time : stepOn axis ≡ Step.Time → readWhole (axis .calendar) (axis .period) (axis .reference) n ≡ readWholeOn axis n
@@ -43,16 +43,11 @@ module _ (axis : Axis) (n : ℤ) where
   pub time-is : stepOn axis ≡ Step.Time → isRead (readWholeOn axis n) ≡ true → timeAfter (axis .period) (axis .reference) n ≡ instantOf (readWholeOn axis n)
   time-is e h = ap instantOf (sym (read-time (axis .calendar) (axis .period) (axis .reference) n (ap isRead (by-time e) ∙ h)) ∙ by-time e)
 
-  -- that move a part of the date
-  pub by-part : (part : Part) (start : Start) → Begins axis part start → movedFrom (axis .calendar) part (start .date) (start .time) n ≡ readWholeOn axis n
-  by-part part start b =
-      (λ j. movedFrom (axis .calendar) part (b .start .date j) (b .start .time j) n)
-      ∙ (moved-from (axis .calendar) part (axis .reference) n (good-reference axis (b .good)) ∙ (moves part ∙ by-step (stepBy part) (b .step)))
-    where
-      moves : (q : Part) → readPart (axis .calendar) q (axis .reference) n ≡ readStep (stepBy q) (axis .calendar) (axis .period) (axis .reference) n
-      moves Part.Month = refl
-      moves Part.Year = refl
+-- that move a part of the date
+pub by-part : (axis : Axis) (n : ℤ) (part : Part) (start : Start) → Begins axis part start → readFrom part (axis .calendar) (start .date) (start .time) n ≡ readWholeOn axis n
+by-part axis n part start b = from-start part (axis .calendar) (axis .reference) start n (b .start) ∙ by-step axis (b .good) n (Step.Date part) (b .step)
 
+module _ (axis : Axis) (n : ℤ) where
   -- a whole offset is never rounded
   pub whole-unmarked : markOf (readWholeOn axis n) ≡ 0
   whole-unmarked = go (readWholeOn axis n) refl
@@ -65,7 +60,7 @@ module _ (axis : Axis) (n : ℤ) where
 module _ (axis : Axis) (g : axisCheck axis ≡ AxisCheck.Good) (m : axis .mode ≡ Mode.Calendar) (x : Float) where
   by-whole : (w : Whole) → wholeOf x ≡ w → readDoubleOn axis x ≡ asWhole w (readWholeOn axis)
   by-whole (Whole.Is n) e = whole-double axis x n m e
-  by-whole (Whole.Refused r) e = refused-double axis x r m (good-reference axis g) e
+  by-whole (Whole.Refused r) e = refused-double axis x r (sym g) m e
 
   -- they are read as the whole offsets that they are
   as-whole : isRead (readDoubleOn axis x) ≡ true → readWholeOn axis (wholeNumber (wholeOf x)) ≡ readDoubleOn axis x

@@ -5,57 +5,30 @@ ghost use Rattle.axis_types.specs.declared.Mode.{Mode};
 ghost use Rattle.axis_types.specs.declared.Reading.{Reading};
 ghost use Rattle.axis_types.specs.Reading.{instantOf, isRead};
 ghost use Rattle.double.specs.Whole.{wholeOf};
-ghost use Rattle.axis.specs.Axis.{readDoubleOn, readWholeOn, axisCheck};
-ghost use Rattle.axis.specs.Start.{stepOn, StartOf};
+ghost use Rattle.calendar_axis.specs.Start.{StartOf};
+ghost use Rattle.axis.specs.Axis.{readDoubleOn, readWholeOn, axisCheck, stepOn};
 ghost use Rattle.axis.specs.declared.AxisCheck.{AxisCheck};
 ghost use Rattle.axis.specs.declared.Step.{Step};
 ghost use Rattle.run_ends.specs.Ends.{wholeNumber};
 ghost use Rattle.runs.specs.Passes.{ScaleOf, Begins};
-use axis::moved::Start;
 use axis_types::Axis;
-use axis_types::Reading;
+use calendar_axis::Start;
+use double::Scale;
 use double::whole::Whole;
-use step::reached::Part;
-
-// The instant nearest to a double's time, and whether it is that time.
-pub struct Nearest {
-    pub instant: i64,
-    pub exact: bool,
-}
-
-// What an axis gives to each double: the first and the last instant of the range and the period's microseconds.
-pub struct Scale {
-    pub first: i64,
-    pub last: i64,
-    pub micros: u64,
-}
-
-pub fn scale_of(axis: Axis) -> Scale
-    ensures { λ s. ⌜ ScaleOf axis s ⌝ }
-{
-    let c = axis.calendar;
-    let p = axis.period;
-    Scale {
-        first: fixed_axis::range_start(c),
-        last: fixed_axis::range_end(c),
-        micros: axis_types::microseconds(p),
-    }
-}
+use fixed_axis::NearestTime;
+use step::Part;
 
 // A double in fixed mode.
-pub fn nearest_instant(axis: Axis, scale: Scale, x: f64) -> Nearest
+pub fn nearest_instant(axis: Axis, scale: Scale, x: f64) -> NearestTime
+    requires good { ⌜ axisCheck axis ≡ AxisCheck.Good ⌝ }
     requires scaled { ⌜ ScaleOf axis scale ⌝ }
     requires fixed { ⌜ axis .mode ≡ Mode.Fixed ⌝ }
     requires read { ⌜ isRead (readDoubleOn axis x) ≡ true ⌝ }
     ensures { λ r. ⌜ readDoubleOn axis x ≡ Reading.At (r .instant) (r .exact) ⌝ }
 {
-    match double::read_double(scale.first, scale.last, axis.reference, scale.micros, x) {
-        Reading::At(instant, exact) => Nearest { instant, exact },
-        Reading::Refused(_) => Nearest {
-            instant: 0,
-            exact: true,
-        },
-    }
+    let c = axis.calendar;
+    let p = axis.period;
+    fixed_axis::nearest_time(c, p, axis.reference, scale, x)
 }
 
 // 1 where an instant is not exact.
@@ -67,6 +40,7 @@ pub fn mark(exact: bool) -> usize
 
 // A whole offset that moves the time.
 pub fn instant_by_time(axis: Axis, n: i64) -> i64
+    requires good { ⌜ axisCheck axis ≡ AxisCheck.Good ⌝ }
     requires step { ⌜ stepOn axis ≡ Step.Time ⌝ }
     requires read { ⌜ isRead (readWholeOn axis n) ≡ true ⌝ }
     ensures { λ t. ⌜ t ≡ instantOf (readWholeOn axis n) ⌝ }
@@ -82,7 +56,7 @@ pub fn start_on(axis: Axis) -> Start
     ensures { λ s. ⌜ StartOf (axis .calendar) (axis .reference) s ⌝ }
 {
     let c = axis.calendar;
-    axis::moved::start_of(c, axis.reference)
+    calendar_axis::start_of(c, axis.reference)
 }
 
 // A whole offset that moves the month or the year.
@@ -92,7 +66,7 @@ pub fn instant_by_part(axis: Axis, part: Part, start: Start, n: i64) -> i64
     ensures { λ t. ⌜ t ≡ instantOf (readWholeOn axis n) ⌝ }
 {
     let c = axis.calendar;
-    axis::moved::instant_after(c, part, start, n)
+    calendar_axis::instant_after(c, part, start, n)
 }
 
 // The whole offset that a double in calendar mode is.

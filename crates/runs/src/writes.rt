@@ -3,28 +3,28 @@ ghost use mathlib.Core.Path.{_≡_};
 ghost use Prim.Native.Nat.{_≤_};
 ghost use lib.ListN.{length};
 ghost use Rattle.axis_types.specs.declared.Mode.{Mode};
-ghost use Rattle.axis.specs.Axis.{readDoubleOn, readWholeOn, axisCheck};
-ghost use Rattle.axis.specs.Start.{stepOn};
+ghost use Rattle.axis.specs.Axis.{readDoubleOn, readWholeOn, axisCheck, stepOn};
 ghost use Rattle.axis.specs.declared.AxisCheck.{AxisCheck};
 ghost use Rattle.axis.specs.declared.Step.{Step};
-ghost use Rattle.runs.specs.Passes.{stepBy};
 ghost use Rattle.runs.specs.Run.{checked, roundedCount, overlaid};
 ghost use Rattle.runs.specs.declared.Check.{Check};
 use crate::element;
 use axis::Step;
 use axis_types::Axis;
 use axis_types::Mode;
-use step::reached::Part;
+use step::Part;
 
 // Doubles in fixed mode, and how many were rounded.
 fn write_nearest(axis: Axis, source: &[f64], destination: &mut [i64]) -> usize
     requires room { ⌜ length (now source) ≤ length (now destination) ⌝ }
+    requires good { ⌜ axisCheck axis ≡ AxisCheck.Good ⌝ }
     requires fixed { ⌜ axis .mode ≡ Mode.Fixed ⌝ }
     requires read { ⌜ checked (readDoubleOn axis) (now source) ≡ Check.AllRead ⌝ }
     ensures counted { λ n. ⌜ n ≡ roundedCount (readDoubleOn axis) (now (source .entry)) ⌝ }
     ensures written { λ _. ⌜ now (destination .exit) ≡ overlaid (readDoubleOn axis) (now (source .entry)) (now (destination .entry)) ⌝ }
 {
-    let scale = element::scale_of(axis);
+    let p = axis.period;
+    let scale = fixed_axis::scale_of(p);
     let mut count: usize = 0;
     let mut i: usize = 0;
     while i < source.len() {
@@ -40,6 +40,7 @@ fn write_nearest(axis: Axis, source: &[f64], destination: &mut [i64]) -> usize
 // Whole offsets that move the time.
 fn write_times(axis: Axis, source: &[i64], destination: &mut [i64])
     requires room { ⌜ length (now source) ≤ length (now destination) ⌝ }
+    requires good { ⌜ axisCheck axis ≡ AxisCheck.Good ⌝ }
     requires step { ⌜ stepOn axis ≡ Step.Time ⌝ }
     requires read { ⌜ checked (readWholeOn axis) (now source) ≡ Check.AllRead ⌝ }
     ensures { λ _. ⌜ now (destination .exit) ≡ overlaid (readWholeOn axis) (now (source .entry)) (now (destination .entry)) ⌝ }
@@ -71,7 +72,7 @@ fn write_double_times(axis: Axis, source: &[f64], destination: &mut [i64])
 fn write_dates(axis: Axis, part: Part, source: &[i64], destination: &mut [i64])
     requires room { ⌜ length (now source) ≤ length (now destination) ⌝ }
     requires good { ⌜ axisCheck axis ≡ AxisCheck.Good ⌝ }
-    requires step { ⌜ stepOn axis ≡ stepBy part ⌝ }
+    requires step { ⌜ stepOn axis ≡ Step.Date part ⌝ }
     requires read { ⌜ checked (readWholeOn axis) (now source) ≡ Check.AllRead ⌝ }
     ensures { λ _. ⌜ now (destination .exit) ≡ overlaid (readWholeOn axis) (now (source .entry)) (now (destination .entry)) ⌝ }
 {
@@ -88,7 +89,7 @@ fn write_double_dates(axis: Axis, part: Part, source: &[f64], destination: &mut 
     requires room { ⌜ length (now source) ≤ length (now destination) ⌝ }
     requires good { ⌜ axisCheck axis ≡ AxisCheck.Good ⌝ }
     requires calendar { ⌜ axis .mode ≡ Mode.Calendar ⌝ }
-    requires step { ⌜ stepOn axis ≡ stepBy part ⌝ }
+    requires step { ⌜ stepOn axis ≡ Step.Date part ⌝ }
     requires read { ⌜ checked (readDoubleOn axis) (now source) ≡ Check.AllRead ⌝ }
     ensures { λ _. ⌜ now (destination .exit) ≡ overlaid (readDoubleOn axis) (now (source .entry)) (now (destination .entry)) ⌝ }
 {
@@ -114,8 +115,7 @@ pub fn write_wholes(axis: Axis, source: &[i64], destination: &mut [i64])
 {
     match axis::step_on(axis) {
         Step::Time => return write_times(axis, source, destination),
-        Step::Months => return write_dates(axis, Part::Month, source, destination),
-        Step::Years => return write_dates(axis, Part::Year, source, destination),
+        Step::Date(part) => return write_dates(axis, part, source, destination),
     }
 }
 
@@ -129,8 +129,7 @@ fn write_whole_doubles(axis: Axis, source: &[f64], destination: &mut [i64])
 {
     match axis::step_on(axis) {
         Step::Time => return write_double_times(axis, source, destination),
-        Step::Months => return write_double_dates(axis, Part::Month, source, destination),
-        Step::Years => return write_double_dates(axis, Part::Year, source, destination),
+        Step::Date(part) => return write_double_dates(axis, part, source, destination),
     }
 }
 

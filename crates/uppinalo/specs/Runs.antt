@@ -3,7 +3,7 @@ use mathlib.Core.List.{List}
 use lib.IntN.{ℤ}
 use Rattle.refusal.specs.Number.{numberOf}
 use Rattle.refusal.specs.declared.Refusal.{Refusal}
-use Rattle.instant.specs.Instant.{inRange}
+use Rattle.axis.specs.Axis.{axisCheck}
 use Rattle.axis_types.specs.declared.Reading.{Reading}
 use Rattle.axis_types.specs.declared.Axis.{Axis}
 use Rattle.runs.specs.Run.{runAnswer, runWritten}
@@ -15,9 +15,9 @@ noRun r = record { number = numberOf r; place = 0; length = 0; rounded = 0 }
 
 -- the run xs of offsets of any kind, each read by `read` alone, lent the destination ds
 abbrev pub runOn : {A : Type 0} → CodedAxis → (Axis → A → Reading) → List A → List ℤ → RunAnswer
-runOn (CodedAxis.Is a) read xs ds = runAnswer (read a) (inRange (a .calendar) (a .reference)) xs ds
+runOn (CodedAxis.Is a) read xs ds = runAnswer (read a) (axisCheck a) xs ds
 runOn (CodedAxis.Refused r) read xs ds = noRun r
 
 abbrev pub destinationOn : {A : Type 0} → CodedAxis → (Axis → A → Reading) → List A → List ℤ → List ℤ
-destinationOn (CodedAxis.Is a) read xs ds = runWritten (read a) (inRange (a .calendar) (a .reference)) xs ds
+destinationOn (CodedAxis.Is a) read xs ds = runWritten (read a) (axisCheck a) xs ds
 destinationOn (CodedAxis.Refused r) read xs ds = ds

@@ -5,7 +5,7 @@ use mir.Syntax.{w64}
 use mir.ValLaws.{toZ-ofZ}
 use Rattle.instant.proofs.Theorems.{time-small}
 use Rattle.axis_types.specs.Reading.{instantOf, isRead}
-use Rattle.axis.specs.Start.{movedFrom}
+use Rattle.calendar_axis.specs.Steps.{readFrom}
 use Rattle.runs.proofs.Steps.{by-part}
 use Rattle.runs.proofs.element.instant_by_part.Statement.{statement}
 use Rattle.runs.proofs.element.instant_by_part.Tie as tie
@@ -22,7 +22,7 @@ returns c =
     let s = c .before in
     let a = s .args in
     toZ-ofZ w64 (c .instant-after .result) (record { sfits = c .instant-after .ok })
-    ∙ ap instantOf (c .instant-after .ensures ∙ (ap (movedFrom (a .axis .calendar) (a .part) (a .start .date) (a .start .time)) (toZ-ofZ w64 (a .n) (s .fits .n)) ∙ by-part (a .axis) (a .n) (a .part) (a .start) (s .pre .0)))
+    ∙ ap instantOf (c .instant-after .ensures ∙ (ap (readFrom (a .part) (a .axis .calendar) (a .start .date) (a .start .time)) (toZ-ofZ w64 (a .n) (s .fits .n)) ∙ by-part (a .axis) (a .n) (a .part) (a .start) (s .pre .0)))
 
 pub instant-by-part-spec : {M : Type 1} → statement M
 instant-by-part-spec = tie.close (tie.spec instant-after-requires returns)

@@ -1,11 +1,11 @@
 -- `runs::element::start_on` meets its contract: the reference of a good axis lies in the range.
-use mathlib.Core.Path.{_≡_, subst}
+use mathlib.Core.Path.{_≡_, sym, subst}
 use lib.IntN.{ℤ}
 use mir.Syntax.{w64}
 use mir.Val.{SFits, toZ, ofZ}
 use mir.ValLaws.{toZ-ofZ}
-use Rattle.axis.specs.Start.{StartOf}
-use Rattle.axis.proofs.Good.{good-reference}
+use Rattle.calendar_axis.specs.Start.{StartOf}
+use Rattle.axis.proofs.Laws.{in-good}
 use borrow.Author.Needs.{needs}
 use Rattle.runs.proofs.element.start_on.Statement.{statement}
 use Rattle.runs.proofs.element.start_on.Tie as tie
@@ -15,7 +15,7 @@ crossed : (s : tie.Start) → toZ w64 (ofZ w64 (s .args .axis .reference)) ≡ s
 crossed s = let f : SFits w64 (s .args .axis .reference) = search needs in toZ-ofZ w64 (s .args .axis .reference) f
 
 start-of-requires : tie.Need-start-of-requires
-start-of-requires c κs = let s = c .before in rw (crossed s) (good-reference (s .args .axis) (s .pre))
+start-of-requires c κs = let s = c .before in rw (crossed s) (in-good (s .args .axis) (sym (s .pre)))
 
 returns : tie.Need-returns
 returns c = let s = c .before .before in subst (λ (R : ℤ). StartOf (s .args .axis .calendar) R (c .start-of .result)) (crossed s) (c .start-of .ensures)

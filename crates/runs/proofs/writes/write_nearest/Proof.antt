@@ -24,12 +24,13 @@ abbrev μ-loop : tie.MeasureT-loop
 μ-loop axis source destination₀ scale count₀ i₀ destination count i = length source - i
 
 loop-holds : tie.Need-loop-holds Inv-loop μ-loop
-loop-holds c = let p = c .before .before .pre in (c .scale-of .ensures, (writing-starts (p .0) (p .1 .1), counting-starts))
+loop-holds c = let p = c .before .before .pre in (c .scale-of .ensures, (writing-starts (p .0) (p .1 .1 .1), counting-starts))
 
 nearest-instant-requires : tie.Need-nearest-instant-requires Inv-loop μ-loop
 nearest-instant-requires c κs =
     let l = c .before .before in
-    (l .loop .inv .0, (l .before .before .before .pre .1 .0, writing-read nan (l .loop .inv .1 .0) (c .before .loop-test .taken)))
+    let s = l .before .before .before in
+    (s .pre .1 .0, (l .loop .inv .0, (s .pre .1 .1 .0, writing-read nan (l .loop .inv .1 .0) (c .before .loop-test .taken))))
 
 add-count : tie.Need-add-count Inv-loop μ-loop
 add-count c = let r = c .before .before .nearest-instant .result in record { fits = omega (arith, mark-le (Reading.At (r .instant) (r .exact))) }

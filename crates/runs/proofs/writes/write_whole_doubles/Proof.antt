@@ -1,6 +1,6 @@
 -- `runs::writes::write_whole_doubles` meets its contract: by what the offsets move on the axis.
 use mathlib.Core.Path.{_≡_, sym, _∙_}
-use Rattle.axis.specs.Start.{stepOn}
+use Rattle.axis.specs.Axis.{stepOn}
 use Rattle.axis.specs.declared.Step.{Step}
 use borrow.Author.Needs.{needs}
 use Rattle.runs.proofs.writes.write_whole_doubles.Statement.{statement}
@@ -23,13 +23,6 @@ write-double-dates-requires c κs =
     let p = o .before .before .pre in
     (p .0, (p .1 .0, (p .1 .1 .0, (moves o (m .enum-told2 .given .1), p .1 .1 .1))))
 
-write-double-dates-requires-2 : tie.Need-write-double-dates-requires-2
-write-double-dates-requires-2 c κs =
-    let m = c .before in
-    let o = m .before .before in
-    let p = o .before .before .pre in
-    (p .0, (p .1 .0, (p .1 .1 .0, (moves o (m .enum-told3 .given .1), p .1 .1 .1))))
-
 pub write-whole-doubles-spec : {M : Type 1} → statement M
 write-whole-doubles-spec =
     tie.close
@@ -41,9 +34,5 @@ write-whole-doubles-spec =
     (λ c. search needs)
     (λ c. search needs)
     write-double-dates-requires
-    (λ c. search needs)
-    (λ c. search needs)
-    (λ c. search needs)
-    write-double-dates-requires-2
     (λ c. search needs)
     (λ c. search needs))

@@ -1,6 +1,6 @@
 -- `runs::writes::write_wholes` meets its contract: by what the offsets move on the axis.
 use mathlib.Core.Path.{_≡_, sym, _∙_}
-use Rattle.axis.specs.Start.{stepOn}
+use Rattle.axis.specs.Axis.{stepOn}
 use Rattle.axis.specs.declared.Step.{Step}
 use borrow.Author.Needs.{needs}
 use Rattle.runs.proofs.writes.write_wholes.Statement.{statement}
@@ -14,7 +14,7 @@ write-times-requires c κs =
     let m = c .before in
     let o = m .before .before in
     let p = o .before .pre in
-    (p .0, (moves o (m .enum-told .given .1), p .1 .1))
+    (p .0, (p .1 .0, (moves o (m .enum-told .given .1), p .1 .1)))
 
 write-dates-requires : tie.Need-write-dates-requires
 write-dates-requires c κs =
@@ -22,13 +22,6 @@ write-dates-requires c κs =
     let o = m .before .before in
     let p = o .before .pre in
     (p .0, (p .1 .0, (moves o (m .enum-told2 .given .1), p .1 .1)))
-
-write-dates-requires-2 : tie.Need-write-dates-requires-2
-write-dates-requires-2 c κs =
-    let m = c .before in
-    let o = m .before .before in
-    let p = o .before .pre in
-    (p .0, (p .1 .0, (moves o (m .enum-told3 .given .1), p .1 .1)))
 
 pub write-wholes-spec : {M : Type 1} → statement M
 write-wholes-spec =
@@ -41,9 +34,5 @@ write-wholes-spec =
     (λ c. search needs)
     (λ c. search needs)
     write-dates-requires
-    (λ c. search needs)
-    (λ c. search needs)
-    (λ c. search needs)
-    write-dates-requires-2
     (λ c. search needs)
     (λ c. search needs))
