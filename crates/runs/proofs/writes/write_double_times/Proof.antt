@@ -18,7 +18,7 @@ instant-by-time-requires : tie.Need-instant-by-time-requires Inv-loop μ-loop
 instant-by-time-requires c κs =
     let l = c .before .before .before in
     let a = l .before .before in
-    (a .pre .1 .0, a .pre .1 .1 .1 .0, double-read (a .args .axis) (a .pre .1 .0) (a .pre .1 .1 .0) (l .loop .inv) (c .before .before .loop-test .taken) (record { sfits = c .whole-number .ok }) (c .whole-number .ensures))
+    (a .pre .1 .0, (a .pre .1 .1 .1 .0, double-read (a .args .axis) (a .pre .1 .0) (a .pre .1 .1 .0) (l .loop .inv) (c .before .before .loop-test .taken) (record { sfits = c .whole-number .ok }) (c .whole-number .ensures)))
 
 loop-again : tie.Need-loop-again Inv-loop μ-loop
 loop-again c =

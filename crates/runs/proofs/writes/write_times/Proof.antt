@@ -16,7 +16,7 @@ abbrev μ-loop : tie.MeasureT-loop
 instant-by-time-requires : tie.Need-instant-by-time-requires Inv-loop μ-loop
 instant-by-time-requires c κs =
     let l = c .before .before in
-    (l .before .pre .1 .0, l .before .pre .1 .1 .0, whole-read (l .loop .inv) (c .before .loop-test .taken) (record { sfits = c .instant-by-time-arg .given }))
+    (l .before .pre .1 .0, (l .before .pre .1 .1 .0, whole-read (l .loop .inv) (c .before .loop-test .taken) (record { sfits = c .instant-by-time-arg .given })))
 
 loop-again : tie.Need-loop-again Inv-loop μ-loop
 loop-again c =

@@ -18,10 +18,10 @@ write-times-requires c κs =
 
 write-dates-requires : tie.Need-write-dates-requires
 write-dates-requires c κs =
-    let m = c .before in
+    let m = c .before .before in
     let o = m .before .before in
     let p = o .before .pre in
-    (p .0, (p .1 .0, (moves o (m .enum-told2 .given .1), p .1 .1)))
+    (p .0, (p .1 .0, (moves o (m .part .given .1), p .1 .1)))
 
 pub write-wholes-spec : {M : Type 1} → statement M
 write-wholes-spec =
