@@ -8,7 +8,7 @@ use Rattle.calendar.specs.Plain.{dayAfter, dayBefore, hasDay}
 use Rattle.calendar.specs.Calendar.{CalendarRow, earlyPart, latePart, nextBy, prevBy, existsBy}
 use Rattle.calendar.specs.Order.{earlier}
 use Rattle.calendar.specs.declared.Date.{Date}
-use Rattle.calendar.proofs.Ordered.{Before, earlier-of, before-trans, not-before, Compared, earlier-than, same-as, later-than, compare, not-earlier, not-same, same-self}
+use Rattle.calendar.proofs.Ordered.{Before, le-before, before-le, earlier-of, before-trans, not-before, Comparison, earlier-than, same-as, later-than, compare, not-earlier, not-same, same-self}
 use Rattle.calendar.proofs.Plain.{Chain, chain, none-before-next}
 
 -- all that is asked of the two days at which they are joined
@@ -27,12 +27,7 @@ module _ (r : CalendarRow) (s : Junction r) where
 
   -- a date not after the last day kept comes before the first of the other calendar
   pub below : (d : Date) → (Before (r .last) d → ⊥) → Before d (r .first)
-  below d f = go (compare d (r .last))
-    where
-      go : Compared d (r .last) → Before d (r .first)
-      go (earlier-than h) = before-trans d (r .last) (r .first) h (s .rises)
-      go (same-as e) = subst (λ (w : Date). Before w (r .first)) (sym e) (s .rises)
-      go (later-than h) = absurd (f h)
+  below d f = le-before d (r .last) (r .first) f (s .rises)
 
   pub side-of : (d : Date) → existsBy r d ≡ true → Side r d
   unfolding existsBy
@@ -121,18 +116,13 @@ module _ (r : CalendarRow) (s : Junction r) where
       n : Date
       n = dayAfter (latePart r) x
 
-      go : Compared (r .first) x → Before (r .first) n
-      go (earlier-than p) = before-trans (r .first) x n p (b .later x h)
-      go (same-as e) = subst (λ (w : Date). Before w n) (sym e) (b .later x h)
-      go (later-than p) = absurd (f p)
-
       past : Before (r .first) n
-      past = go (compare (r .first) x)
+      past = le-before (r .first) x n f (b .later x h)
 
   on : (x : Date) → Side r x → On x
   on x (on-early h f) = go (compare x (r .last))
     where
-      go : Compared x (r .last) → On x
+      go : Comparison x (r .last) → On x
       go (earlier-than l) = on-early-side x h l
       go (same-as e) = subst On (sym e) on-last
       go (later-than l) = absurd (f l)
@@ -149,16 +139,11 @@ module _ (r : CalendarRow) (s : Junction r) where
   back x (on-early h f) =
       let n = dayBefore (earlyPart r) x in
       let u : Before n x = subst (Before n) (a .redone x h) (a .later n (a .before x h)) in
-      let l : Before n (r .last) = go (compare x (r .last)) n u in
+      let l : Before n (r .last) = before-le n x (r .last) u f in
       back-by x n (prev-early x (below x f)) (on-early (a .before x h) (λ p. not-before n (before-trans n (r .last) n l p))) (next-early n l ∙ a .redone x h)
-    where
-      go : Compared x (r .last) → (n : Date) → Before n x → Before n (r .last)
-      go (earlier-than l) n u = before-trans n x (r .last) u l
-      go (same-as e) n u = subst (Before n) e u
-      go (later-than l) n u = absurd (f l)
   back x (on-late h f) = go (compare (r .first) x)
     where
-      go : Compared (r .first) x → Back x
+      go : Comparison (r .first) x → Back x
       go (earlier-than l) =
           let n = dayBefore (latePart r) x in
           let k : Before n (r .first) → ⊥ = λ p. none-before-next (latePart r) n (r .first) (b .before x h) (s .first) p (subst (Before (r .first)) (sym (b .redone x h)) l) in

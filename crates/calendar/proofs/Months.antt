@@ -12,7 +12,7 @@ use Rattle.calendar.specs.Calendar.{CalendarRow, earlyPart, latePart, ex
 use Rattle.calendar.specs.declared.Calendar.{Calendar}
 use Rattle.calendar.specs.declared.Calendar.the-variants.{Standard, ProlepticGregorian, Julian, NoLeap, AllLeap, Day360}
 use Rattle.calendar.specs.declared.Date.{Date}
-use Rattle.calendar.proofs.Ordered.{date-eq, Before, by-year, by-month, by-day, before-trans, not-before, Compared, earlier-than, same-as, later-than, compare, clash, in-month}
+use Rattle.calendar.proofs.Ordered.{date-eq, Before, by-year, by-month, by-day, before?, before-trans, not-before, Comparison, earlier-than, same-as, later-than, compare, clash, in-month}
 use Rattle.calendar.proofs.Plain.{valid-of, exists-of, long}
 use Rattle.calendar.proofs.Joint.{Junction, Side, on-early, on-late, below, side-of, exists-on}
 use Rattle.calendar.proofs.Days.{junction}
@@ -29,14 +29,14 @@ pub OneMonth : CalendarRow → Type 0
 OneMonth r = (x : Date) → hasDay (earlyPart r) x ≡ true → Before (r .last) x → Before x (r .first) → (r .last .year ≡ x .year) × (r .last .month ≡ x .month)
 
 -- why a day is the next that exists below another
-pub data Found (r : CalendarRow) (y : ℤ) (m : ℕ) : ℕ → Type 0 where
-  month-end : (p : Plain) → Found r y m (lastDay p y m)
-  last-kept : r .last .year ≡ y → r .last .month ≡ m → Found r y m (r .last .day)
+pub data Reason (r : CalendarRow) (y : ℤ) (m : ℕ) : ℕ → Type 0 where
+  month-end : (p : Plain) → Reason r y m (lastDay p y m)
+  last-kept : r .last .year ≡ y → r .last .month ≡ m → Reason r y m (r .last .day)
 
 -- the next day that exists below day d
 pub record Below (r : CalendarRow) (y : ℤ) (m d : ℕ) : Type 0 where
   pub day : ℕ
-  pub why : Found r y m day
+  pub why : Reason r y m day
   pub less : day < d
   pub there : existsBy r (date y m day) ≡ true
   pub none : (k : ℕ) → day < k → k ≤ d → existsBy r (date y m k) ≡ false
@@ -48,7 +48,14 @@ has-day p y m d h a b = exists-of p (date y m d) (record { month-low = h .low; m
 module _ (r : CalendarRow) (j : Junction r) (o : OneMonth r) (y : ℤ) (m : ℕ) (h : Month (r .zero) y m) where
   pub first-exists : existsBy r (date y m 1) ≡ true
   unfolding OneMonth
-  first-exists = go (compare (date y m 1) (r .first)) (compare (date y m 1) (r .last))
+  first-exists =
+      elim (before? x (r .first)) [
+        | yes a ↦ elim (before? (r .last) x) [
+          | yes b ↦ absurd (not-dropped b a)
+          | no b ↦ exists-on r j x (on-early (has (earlyPart r) refl) b)
+        ]
+        | no a ↦ exists-on r j x (on-late (has (latePart r) refl) a)
+      ]
     where
       x : Date
       x = date y m 1
@@ -56,24 +63,11 @@ module _ (r : CalendarRow) (j : Junction r) (o : OneMonth r) (y : ℤ) (m : ℕ)
       has : (p : Plain) → p .zero ≡ r .zero → hasDay p (date y m 1) ≡ true
       has p e = has-day p y m 1 (subst (λ (z : Bool). Month z y m) (sym e) h) (omega arith) (omega (arith, long p y m (h .low) (h .high)))
 
-      late : (Before x (r .first) → ⊥) → existsBy r x ≡ true
-      late f = exists-on r j x (on-late (has (latePart r) refl) f)
-
-      early : (Before (r .last) x → ⊥) → existsBy r x ≡ true
-      early f = exists-on r j x (on-early (has (earlyPart r) refl) f)
-
       -- the first of the month of the last day is not after it
       not-dropped : Before (r .last) x → Before x (r .first) → ⊥
       not-dropped (by-year a) q = let w = o x (has (earlyPart r) refl) (by-year a) q in clash (r .last .year) y a (w .0)
       not-dropped (by-month e a) q = let w = o x (has (earlyPart r) refl) (by-month e a) q in omega (arith, w .1)
       not-dropped (by-day e f a) q = omega (arith, valid-of (earlyPart r) (r .last) (j .last) .day-low)
-
-      go : Compared x (r .first) → Compared x (r .last) → existsBy r x ≡ true
-      go (earlier-than a) (earlier-than b) = early (λ f. not-before x (before-trans x (r .last) x b f))
-      go (earlier-than a) (same-as e) = early (λ f. not-before x (subst (λ (w : Date). Before w x) (sym e) f))
-      go (earlier-than a) (later-than b) = absurd (not-dropped b a)
-      go (same-as e) c = late (λ f. not-before x (subst (Before x) (sym e) f))
-      go (later-than a) c = late (λ f. not-before x (before-trans x (r .first) x f a))
 
   module _ (d : ℕ) (low : 1 ≤ d) where
     abbrev x : Date
@@ -135,7 +129,7 @@ module _ (r : CalendarRow) (j : Junction r) (o : OneMonth r) (y : ℤ) (m : ℕ)
         from : Before w (r .first) → ⊥
         from a = go (compare (r .first) x)
           where
-            go : Compared (r .first) x → ⊥
+            go : Comparison (r .first) x → ⊥
             go (earlier-than c) = let i = in-month y m l d (r .first) a c in past (r .first) (j .first) (i .year) (i .month) (i .after)
             go (same-as e) = past (r .first) (j .first) (sym (ap (λ (q : Date). q .year) e)) (sym (ap (λ (q : Date). q .month) e)) (omega (arith, ap (λ (q : Date). q .day) e))
             go (later-than c) = b c
@@ -147,7 +141,11 @@ module _ (r : CalendarRow) (j : Junction r) (o : OneMonth r) (y : ℤ) (m : ℕ)
     -- below a day that does not exist
     pub day-below : existsBy r x ≡ false → Below r y m d
     unfolding OneMonth
-    day-below n = go (compare x (r .first))
+    day-below n =
+        elim (before? x (r .first)) [
+          | yes a ↦ early a
+          | no a ↦ late a
+        ]
       where
         l : ℕ
         l = lastDay (earlyPart r) y m
@@ -173,27 +171,15 @@ module _ (r : CalendarRow) (j : Junction r) (o : OneMonth r) (y : ℤ) (m : ℕ)
         early : Before x (r .first) → Below r y m d
         early b =
             elim (decLe d l) [
-              | yes g ↦ go-last (compare (r .last) x) g
-              | no g ↦ go-end (compare (r .last) (date y m l)) (omega arith)
+              | yes g ↦ elim (before? (r .last) x) [
+                | yes u ↦ dropped d (omega arith) low g b u
+                | no u ↦ absurd (true≢false (sym (exists-on r j x (on-early (has-day (earlyPart r) y m d h low g) u)) ∙ n))
+              ]
+              | no g ↦ elim (before? (r .last) (date y m l)) [
+                | yes u ↦ dropped l (omega arith) (omega (arith, long (earlyPart r) y m (h .low) (h .high))) (omega arith) b u
+                | no u ↦ early-end b (omega arith) u
+              ]
             ]
-          where
-            kept : d ≤ l → (Before (r .last) x → ⊥) → Below r y m d
-            kept g f = absurd (true≢false (sym (exists-on r j x (on-early (has-day (earlyPart r) y m d h low g) f)) ∙ n))
-
-            go-last : Compared (r .last) x → d ≤ l → Below r y m d
-            go-last (earlier-than u) g = dropped d (omega arith) low g b u
-            go-last (same-as e) g = kept g (λ f. not-before x (subst (λ (w : Date). Before w x) e f))
-            go-last (later-than u) g = kept g (λ f. not-before x (before-trans x (r .last) x u f))
-
-            go-end : Compared (r .last) (date y m l) → l < d → Below r y m d
-            go-end (earlier-than u) g = dropped l (omega arith) (omega (arith, long (earlyPart r) y m (h .low) (h .high))) (omega arith) b u
-            go-end (same-as e) g = early-end b g (λ f. not-before (date y m l) (subst (λ (w : Date). Before w (date y m l)) e f))
-            go-end (later-than u) g = early-end b g (λ f. not-before (date y m l) (before-trans (date y m l) (r .last) (date y m l) u f))
-
-        go : Compared x (r .first) → Below r y m d
-        go (earlier-than a) = early a
-        go (same-as e) = late (λ f. not-before x (subst (Before x) (sym e) f))
-        go (later-than a) = late (λ f. not-before x (before-trans x (r .first) x f a))
 
 -- ---- the calendars
 
@@ -202,12 +188,12 @@ in-october a b x p q = let i = in-month (pos 1582) 10 a b x p q in (i .year, i .
 
 pub one-month : (c : Calendar) → OneMonth (rowOf c)
 unfolding OneMonth
-one-month Standard x g = in-october 4 15 x
-one-month ProlepticGregorian x g = in-october 14 15 x
-one-month Julian x g = in-october 14 15 x
-one-month NoLeap x g = in-october 14 15 x
-one-month AllLeap x g = in-october 14 15 x
-one-month Day360 x g = in-october 14 15 x
+one-month Standard x g = in-october _ _ x
+one-month ProlepticGregorian x g = in-october _ _ x
+one-month Julian x g = in-october _ _ x
+one-month NoLeap x g = in-october _ _ x
+one-month AllLeap x g = in-october _ _ x
+one-month Day360 x g = in-october _ _ x
 
 module _ (c : Calendar) (y : ℤ) (m : ℕ) (h : Month (hasYearZero c) y m) where
   -- the first of every month exists

@@ -98,15 +98,15 @@ years a b = go (decLe (suc (k .left)) (k .right)) (decLe (suc (k .right)) (k .le
     go (no h) (yes g) = more ((λ i. ltZ (sym (k .is-right) i) (sym (k .is-left) i)) ∙ (sub-lt (k .right) (k .left) (k .least) ∙ lt-ltb (k .right) (k .left) g))
     go (no h) (no g) = same (sym (k .is-left) ∙ (ap (λ (n : ℕ). subℕ n (k .least)) (omega arith) ∙ k .is-right))
 
-pub data Compared (x y : Date) : Type 0 where
-  earlier-than : Before x y → Compared x y
-  same-as : x ≡ y → Compared x y
-  later-than : Before y x → Compared x y
+pub data Comparison (x y : Date) : Type 0 where
+  earlier-than : Before x y → Comparison x y
+  same-as : x ≡ y → Comparison x y
+  later-than : Before y x → Comparison x y
 
-pub compare : (x y : Date) → Compared x y
+pub compare : (x y : Date) → Comparison x y
 compare x y = go (years (x .year) (y .year))
   where
-    go : Years (x .year) (y .year) → Compared x y
+    go : Years (x .year) (y .year) → Comparison x y
     go (less h) = earlier-than (by-year h)
     go (more h) = later-than (by-year h)
     go (same e) =
@@ -123,6 +123,30 @@ compare x y = go (years (x .year) (y .year))
             ]
           ]
         ]
+
+-- a date that is not later than another comes before what the other comes before, and what comes before it before the other
+pub le-before : (x y z : Date) → (Before y x → ⊥) → Before y z → Before x z
+le-before x y z f h = go (compare x y)
+  where
+    go : Comparison x y → Before x z
+    go (earlier-than g) = before-trans x y z g h
+    go (same-as e) = rw e h
+    go (later-than g) = absurd (f g)
+
+pub before-le : (x y z : Date) → Before x y → (Before z y → ⊥) → Before x z
+before-le x y z h f = go (compare y z)
+  where
+    go : Comparison y z → Before x z
+    go (earlier-than g) = before-trans x y z h g
+    go (same-as e) = rw e at h
+    go (later-than g) = absurd (f g)
+
+pub before? : (x y : Date) → Dec (Before x y)
+before? x y = go (earlier x y) refl
+  where
+    go : (t : Bool) → earlier x y ≡ t → Dec (Before x y)
+    go true e = yes (before-of x y e)
+    go false e = no (λ h. true≢false (sym (earlier-of x y h) ∙ e))
 
 -- ---- the test for the same date
 
@@ -177,7 +201,7 @@ not-after y m d x = go (compare x (date y m d))
     next : Before l (date y m (d + 1))
     next = by-day refl refl (omega arith)
 
-    go : Compared x l → not (earlier l x) ≡ earlier x (date y m (d + 1))
+    go : Comparison x l → not (earlier l x) ≡ earlier x (date y m (d + 1))
     go (earlier-than h) = below (λ g. not-before x (before-trans x l x h g)) (before-trans x l (date y m (d + 1)) h next)
     go (same-as e) = below (λ g. not-before l (rw e at g)) (rw e next)
     go (later-than h) = ap not (earlier-of l x h) ∙ sym (not-earlier x (date y m (d + 1)) (λ g. let w = in-month y m d (d + 1) x h g in omega (arith, w .after, w .before)))

@@ -12,6 +12,7 @@ use Rattle.calendar.specs.declared.Calendar.the-variants.{Standard, Prol
 use Rattle.calendar.specs.declared.Date.{Date}
 use Rattle.calendar.specs.declared.rule.Rule.{Rule}
 
+-- whether it has a year 0, the rules of years of its two parts, the last day of the early part and the first of the late one
 pub record CalendarRow : Type 0 where
   pub zero : Bool
   pub early : Rule

@@ -55,7 +55,7 @@ pub fn epoch_day(c: Calendar) -> u64
 }
 
 // Year -9999, counted from -10000.
-fn first_year(zero: bool) -> u64
+pub fn first_year(zero: bool) -> u64
     ensures { λ y. ⌜ y ≡ firstYear zero ⌝ }
 {
     if zero {

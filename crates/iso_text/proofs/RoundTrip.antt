@@ -11,7 +11,7 @@ use lib.ListN.{length}
 use Rattle.grammar.specs.Reader.{read}
 use Rattle.calendar.specs.Calendar.{dateOf}
 use Rattle.calendar.specs.declared.Calendar.{Calendar}
-use Rattle.calendar.proofs.Existing.{valid-of, long}
+use Rattle.calendar.proofs.Existing.{valid-of}
 use Rattle.calendar.proofs.Theorems.{dates-exist}
 use Rattle.instant.specs.Instant.{dayOf, timeOf, fieldsAt, fieldsAnswer, instantAnswer}
 use Rattle.instant.specs.declared.Fields.{Fields}
@@ -37,7 +37,6 @@ module _ (c : Calendar) (t : ℤ) (f : Fields) (e : fieldsAnswer c t ≡ FieldsA
   formed-at =
       let x = dateOf c (dayOf t) in
       let v = valid-of c x (dates-exist c (dayOf t)) in
-      let d = long c (x .year) (x .month) (v .month-low) (v .month-high) in
       let s = time-small t in
       record {
         year = year-small (x .year) (shown c t f e .inside);
