@@ -16,7 +16,6 @@ use mir.Syntax.{w64}
 use mir.Val.{SFits}
 use lib.IntN.{ℤ, pos}
 use Rattle.date_text.specs.DateRule.{utc, zone, time}
-use Rattle.calendar.proofs.Following.{day, month, year}
 use Rattle.signed.proofs.Machine.{negative}
 use Rattle.iso_text.proofs.Laws.{year-sign}
 use Rattle.iso_text.proofs.written_of.Statement.{statement}
