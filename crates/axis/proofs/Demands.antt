@@ -2,6 +2,7 @@
 --   reading         what is demanded of reading whole offsets holds of every good axis
 --   writing         and what is demanded of writing
 --   refused-axis    an axis that is refused refuses every call
+--   read-inside     every instant that is read lies in the range
 --   whole-exact     a whole offset that is read is exact
 --   whole-between   a whole offset between two that are read is read
 --   double-between  and in fixed mode a double
@@ -10,7 +11,7 @@
 --   fixed-double    a double on an axis of fixed mode is read as crate `fixed_axis` reads it, whose proofs/Demands.antt has demand 3
 --   whole-double    in calendar mode a whole double does as the whole offset
 --   refused-double  in calendar mode another double is refused as it is no whole number of 64 bits
-use mathlib.Core.Path.{_≡_, sym, ap, _∙_, subst}
+use mathlib.Core.Path.{_≡_, refl, sym, ap, _∙_, subst}
 use mathlib.Core.Bool.{Bool, true, false, cond}
 use Prim.Native.Nat.{ℕ}
 use native.Mathlib.Omega.{arith}
@@ -28,6 +29,7 @@ use Rattle.instant.specs.declared.Fields.{Fields}
 use Rattle.axis_types.specs.declared.Period.{Period}
 use Rattle.axis_types.specs.declared.Mode.{Mode}
 use Rattle.axis_types.specs.declared.Axis.{Axis}
+use Rattle.axis_types.specs.declared.Offset.{Offset}
 use Rattle.axis_types.specs.declared.Reading.{Reading}
 use Rattle.axis_types.specs.declared.OffsetAnswer.{OffsetAnswer}
 use Rattle.double.specs.Whole.{wholeOf}
@@ -40,7 +42,7 @@ use Rattle.fixed_axis.proofs.Between as Between
 use Rattle.fixed_axis.proofs.Demands as Fixed
 use Rattle.calendar_axis.specs.Steps.{dateAt}
 use Rattle.calendar_axis.proofs.Demands as Steps
-use Rattle.axis.specs.Axis.{axisCheck, onGood, stepOn, readBy, writeBy, wholeOn, asWhole, doubleIn, doubleOn, offsetOn, readWholeOn, readDoubleOn, writeInstantOn, writeFieldsOn}
+use Rattle.axis.specs.Axis.{axisCheck, onGood, stepOn, readBy, writeBy, wholeOn, asWhole, doubleIn, doubleOn, offsetOn, readWholeOn, readDoubleOn, readOffset, writeInstantOn, writeFieldsOn}
 use Rattle.axis.specs.Demands.{WholeReading, InstantWriting}
 use Rattle.axis.specs.declared.AxisCheck.{AxisCheck}
 use Rattle.axis.specs.declared.Step.{Step}
@@ -103,7 +105,7 @@ module _ (c : Calendar) (p : Period) (R : ℤ) (good : inRange c R ≡ true) (s 
   written t n = go (inRange c t)
     where
       go : (q : Bool) → cond q (writeBy s c p R t) (OffsetAnswer.Refused OutOfRange) ≡ OffsetAnswer.Is n → (q ≡ true) × (writeBy s c p R t ≡ OffsetAnswer.Is n)
-      go true h = (mathlib.Core.Path.refl, h)
+      go true h = (refl, h)
       go false h = absurd (let k : _≡_ {A = ℕ} 0 1 = cc in omega arith)
 
   inside-writes : (t : ℤ) → inRange c t ≡ true → write t ≡ writeBy s c p R t
@@ -188,3 +190,22 @@ double-between a m x y z t u i j f g p q =
     let good = read-good (axisCheck a) (doubleOn a x) t i p in
     let w = Between.double-between (a .calendar) (a .period) (a .reference) x y z t u i j f g (sym (fixed-double a x good m) ∙ p) (sym (fixed-double a z good m) ∙ q) in
     (w .0, w .1, fixed-double a y good m ∙ w .2)
+
+-- ---- every instant that is read lies in the range
+module _ (a : Axis) (t : ℤ) (exact : Bool) where
+  double-inside : (x : Float) → readDoubleOn a x ≡ Reading.At t exact → inRange (a .calendar) t ≡ true
+  unfolding readDoubleOn
+  double-inside x h = go (a .mode) (wholeOf x) refl refl
+    where
+      good : AxisCheck.Good ≡ axisCheck a
+      good = read-good (axisCheck a) (doubleOn a x) t exact h
+
+      go : (m : Mode) (w : Whole) → a .mode ≡ m → wholeOf x ≡ w → inRange (a .calendar) t ≡ true
+      go Mode.Fixed w e f = Fixed.double-inside (a .calendar) (a .period) (a .reference) x t exact (sym (fixed-double a x good e) ∙ h)
+      go Mode.Calendar (Whole.Is n) e f = reading a good .inside n t exact (sym (whole-double a x n e f) ∙ h)
+      go Mode.Calendar (Whole.Refused r) e f = let q = sym (refused-double a x r good e f) ∙ h in absurd (let k : _≡_ {A = ℕ} 0 1 = cc in omega arith)
+
+  pub read-inside : (o : Offset) → readOffset a o ≡ Reading.At t exact → inRange (a .calendar) t ≡ true
+  unfolding readOffset
+  read-inside (Offset.Whole n) h = reading a (whole-good a n t exact h) .inside n t exact h
+  read-inside (Offset.Double x) h = double-inside x h

@@ -1,6 +1,7 @@
 -- The theorems about offsets on a fixed axis with calendar c, period p and reference R, over the definitions that the public calls are proved to compute.
 -- Doubles, demand 3:
 --   read-right       every instant that is read is the nearest of all counts, at most half a microsecond from the exact time, marked exact just where the distance is 0, and in the range
+--   double-inside    every instant that is read lies in the range
 --   nearest-there    there is a nearest count, nearest-only    and no other
 --   outcome          whatever count is nearest, it is the answer where its day lies in the years, and OutOfRange elsewhere
 --   refused-past, past-refused    OutOfRange exactly where the day of the nearest count leaves the years, by the next-day rule
@@ -67,6 +68,12 @@ module _ (c : Calendar) (p : Period) (R : ℤ) where
         mark = sym (r .same) ∙ ap (λ (y : ℤ). eqb (distance R P s m e y) 0) (r .is);
         inside = r .inside;
       }
+
+  pub double-inside : (x : Float) (z : ℤ) (exact : Bool) → readDouble c p R x ≡ Reading.At z exact → inRange c z ≡ true
+  unfolding readDouble
+  double-inside nan z exact h = absurd (not-read NotFinite z exact h)
+  double-inside (inf s) z exact h = absurd (not-read NotFinite z exact h)
+  double-inside (fin s m e) z exact h = read-right s m e z exact h .inside
 
   pub nearest-there : (s : Bool) (m : ℕ) (e : ℤ) → IsNearest R P s m e (nearestCount R P s m e)
   nearest-there s m e = count-nearest R P s m e

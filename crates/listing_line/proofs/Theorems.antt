@@ -33,7 +33,7 @@ use Rattle.fixed_axis.specs.Fixed.{readingAt, readFloat, readDouble}
 use Rattle.axis_types.specs.declared.Axis.{Axis}
 use Rattle.axis.specs.Axis.{stepOf, readStep, asWhole, doubleAsWhole, doubleIn, readWholeOn, readDoubleOn, readOffset}
 use Rattle.axis_types.specs.declared.Offset.{Offset}
-use Rattle.axis.proofs.Demands.{inverse}
+use Rattle.axis.proofs.Demands.{read-inside}
 use Rattle.axis_text.specs.Units.{readUnits}
 use Rattle.axis_text.specs.declared.AxisAnswer.{AxisAnswer}
 use Rattle.iso_form.specs.Form.{twoDigits}
@@ -42,47 +42,6 @@ use Rattle.offset_text.specs.OffsetRule.{offset}
 use Rattle.listing_line.specs.declared.LineAnswer.{LineAnswer}
 use Rattle.listing_line.specs.Line.{onFirst, parted, lineReading, onAxis, withOffset, ofParts, lineAnswer, shortNumber, refusedText, fieldsIn, roundedText, newline, answerText, lineText, lengthIn}
 use Rattle.listing_line.proofs.Instants.{shown-length}
-
--- ---- an offset is read as an instant of the range
-
-refused-at : {A : Type 0} {r : Refusal} {t : ℤ} {exact : Bool} → Reading.Refused r ≡ Reading.At t exact → A
-refused-at e = absurd (let z : _≡_ {A = ℕ} 0 1 = cc in omega arith)
-
-module _ (c : Calendar) (p : Period) (R t : ℤ) (exact : Bool) where
-  ranged : (z : ℤ) (e : Bool) → readingAt c z e ≡ Reading.At t exact → inRange c t ≡ true
-  ranged z e h = go (inRange c z) refl h
-    where
-      go : (b : Bool) → inRange c z ≡ b → cond b (Reading.At z e) (Reading.Refused OutOfRange) ≡ Reading.At t exact → inRange c t ≡ true
-      go true w x = let y : z ≡ t = cc in rw y at w
-      go false w x = refused-at x
-
-  fixed-inside : (x : Float) → readDouble c p R x ≡ Reading.At t exact → inRange c t ≡ true
-  unfolding readDouble
-  fixed-inside x h = go (inRange c R) x h
-    where
-      go : (b : Bool) (x : Float) → cond b (readFloat c p R x) (Reading.Refused OutOfRange) ≡ Reading.At t exact → inRange c t ≡ true
-      go true nan h = refused-at h
-      go true (inf s) h = refused-at h
-      go true (fin s m e) h = ranged _ _ h
-      go false x h = refused-at h
-
-  stepped-inside : (x : Float) → doubleAsWhole c p R x ≡ Reading.At t exact → inRange c t ≡ true
-  unfolding doubleAsWhole readWholeOn
-  stepped-inside x h = go (inRange c R) (wholeOf x) h
-    where
-      go : (b : Bool) (w : Whole) → cond b (asWhole w (readStep (stepOf p) c p R)) (Reading.Refused OutOfRange) ≡ Reading.At t exact → inRange c t ≡ true
-      go true (Whole.Is n) h = inverse (record { calendar = c; period = p; mode = Mode.Calendar; reference = R }) .read-inside n t exact h
-      go true (Whole.Refused r) h = refused-at h
-      go false w h = refused-at h
-
-  double-inside : (m : Mode) (x : Float) → doubleIn m c p R x ≡ Reading.At t exact → inRange c t ≡ true
-  double-inside Mode.Fixed x h = fixed-inside x h
-  double-inside Mode.Calendar x h = stepped-inside x h
-
-read-inside : (a : Axis) (o : Offset) (t : ℤ) (exact : Bool) → readOffset a o ≡ Reading.At t exact → inRange (a .calendar) t ≡ true
-unfolding readOffset readDoubleOn
-read-inside a (Offset.Whole n) t exact h = inverse a .read-inside n t exact h
-read-inside a (Offset.Double x) t exact h = double-inside (a .calendar) (a .period) (a .reference) t exact (a .mode) x h
 
 -- ---- a line shows an instant of the range
 
@@ -98,7 +57,7 @@ module _ (c : Calendar) (t : ℤ) (exact : Bool) where
   of-reading d (Reading.Refused r) f h = refused-shows h
 
   on-axis : (a : AxisAnswer) (o : Offset) → onAxis a o ≡ LineAnswer.Shows c t exact → inRange c t ≡ true
-  on-axis (AxisAnswer.Is a) o h = of-reading (a .calendar) (readOffset a o) (read-inside a o) h
+  on-axis (AxisAnswer.Is a) o h = of-reading (a .calendar) (readOffset a o) (λ u e. read-inside a u e o) h
   on-axis (AxisAnswer.Refused r) o h = refused-shows h
 
   with-offset : (name units : List ℕ) (o : Option Offset) → withOffset name units o ≡ LineAnswer.Shows c t exact → inRange c t ≡ true
