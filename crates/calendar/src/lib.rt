@@ -3,7 +3,7 @@
 ghost use mathlib.Core.Path.{_≡_};
 ghost use mathlib.Core.Bool.{true};
 ghost use Prim.Native.Nat.{_-_, _≤_};
-ghost use Rattle.signed.specs.Bias.{lower};
+ghost use Rattle.signed.specs.Bias.{unbiased};
 ghost use Rattle.calendar.specs.Answers.{dateAnswer, dayAnswer};
 ghost use Rattle.calendar.specs.Calendar.{hasYearZero, inYears, dateOf};
 ghost use Rattle.calendar.specs.Closed.{epochDay, firstYear, firstDay, endDay, Counted};
@@ -91,7 +91,7 @@ fn origin(c: Calendar) -> u64
 
 // Whether the date of the day number k - 2^63 lies in the years -9999 to 9999.
 fn day_in_years(c: Calendar, k: u64) -> bool
-    ensures { λ r. ⌜ r ≡ inYears (dateOf c (lower k) .year) ⌝ }
+    ensures { λ r. ⌜ r ≡ inYears (dateOf c (unbiased k) .year) ⌝ }
 {
     let o = origin(c);
     if k < o {
@@ -105,15 +105,15 @@ fn day_in_years(c: Calendar, k: u64) -> bool
 
 // The date of such a day number.
 fn date_in_years(c: Calendar, k: u64) -> Date
-    requires { ⌜ inYears (dateOf c (lower k) .year) ≡ true ⌝ }
-    ensures { λ d. ⌜ d ≡ dateOf c (lower k) ⌝ }
+    requires { ⌜ inYears (dateOf c (unbiased k) .year) ≡ true ⌝ }
+    ensures { λ d. ⌜ d ≡ dateOf c (unbiased k) ⌝ }
 {
     civil::date_at(c, k - origin(c))
 }
 
 // The date of the day number k - 2^63; OutOfRange where its year lies past -9999 to 9999.
 pub fn date_of_biased_day(c: Calendar, k: u64) -> DateAnswer
-    ensures { λ r. ⌜ r ≡ dateAnswer c (lower k) ⌝ }
+    ensures { λ r. ⌜ r ≡ dateAnswer c (unbiased k) ⌝ }
 {
     if day_in_years(c, k) {
         return DateAnswer::Is(date_in_years(c, k));
@@ -149,7 +149,7 @@ pub enum YearCount {
 // The count of the year k - 2^63, with or without a year 0.
 pub fn year_count(zero: bool, k: u64) -> YearCount
     requires { ⌜ (9223372036854765809 ≤ k) × (k ≤ 9223372036854785807) ⌝ }
-    ensures { λ r. ⌜ Counted zero (lower k) r ⌝ }
+    ensures { λ r. ⌜ Counted zero (unbiased k) r ⌝ }
 {
     if zero {
         return YearCount::Is(k - (0x8000_0000_0000_0000 - 10000));

@@ -14,7 +14,8 @@ use lib.Ieee.Nearest.{closest}
 use Rattle.rounding.specs.Rounding.{isExact}
 use Rattle.rounding.proofs.Closest.{closest-is, is-closest, eqb-iff}
 use Rattle.signed.proofs.Integers.{plus-minus, plus-difference, cancelled, over-sum, neg-times, dist, abs-neg, abs-diff}
-use Rattle.double.specs.Nearest.{withSign, exactSize, distance, IsNearest, nearestSize, nearestCount}
+use Rattle.signed.specs.Sign.{withSign}
+use Rattle.double.specs.Nearest.{exactSize, distance, IsNearest, nearestSize, nearestCount}
 
 -- ---- d times the distance of a displacement w from ± a / d
 abbrev off : Bool → ℕ → ℕ → ℤ → ℕ

@@ -13,7 +13,8 @@ use lib.Ieee.Fits.{down-pos, and-l, and-r}
 use lib.Ieee.Nearest.{closest, closest-mono}
 use Rattle.rounding.proofs.Closest.{below-half}
 use Rattle.signed.proofs.Integers.{mono, neg-le, neg-le-pos}
-use Rattle.double.specs.Nearest.{withSign, nearestSize, nearestCount}
+use Rattle.signed.specs.Sign.{withSign}
+use Rattle.double.specs.Nearest.{nearestSize, nearestCount}
 
 either : (p q : Bool) → T (p || q) → T p ⊎ T q
 either true q h = inl tt

@@ -16,7 +16,7 @@ use Rattle.rounding.specs.Rounding.{isExact}
 use Rattle.rounding.proofs.Closest.{same-exact}
 use Rattle.double.specs.declared.Pattern.{Pattern}
 use Rattle.double.specs.declared.Displacement.{Displacement}
-use Rattle.double.specs.Nearest.{withSign}
+use Rattle.signed.specs.Sign.{withSign}
 use Rattle.double.specs.Displacement.{DisplacementOf, IsSmall, IsLarge, IsNotFinite}
 use Rattle.double.specs.Fields.{patternOf, PatternDisplacement}
 use Rattle.double.proofs.Bits.{signOf, fieldOf, sizeOf, finite, value, not-finite}

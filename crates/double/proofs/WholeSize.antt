@@ -15,11 +15,11 @@ use lib.Ieee.Nearest.{div-same}
 use borrow.Author.Tests.{lt-ltb, le-ltb, eq-eqb, ne-eqb}
 use Rattle.rounding.proofs.Closest.{eqb-iff}
 use Rattle.refusal.specs.declared.Refusal.the-variants.{OutOfRange, Inexact, NotFinite}
-use Rattle.signed.specs.Bias.{lower, bias}
+use Rattle.signed.specs.Bias.{unbiased, bias}
 use Rattle.signed.proofs.Differences.{sub-low, sub-high}
 use Rattle.double.specs.declared.whole.Whole.the-variants.{Is, Refused}
 use Rattle.double.specs.declared.whole.Size.the-variants.{Of, Fraction, Large}
-use Rattle.double.specs.Nearest.{withSign}
+use Rattle.signed.specs.Sign.{withSign}
 use Rattle.double.specs.Whole.{in64, wholeOf}
 use Rattle.double.specs.Fields.{SizeOf, WholeSize}
 use Rattle.double.proofs.Significand.{leading-comm, leading-lt, size-lt, size-zero, zero-size}
@@ -33,10 +33,6 @@ pub in64-no : (z : ℤ) → 2 ^ 63 ≤ mag z → Refused OutOfRange ≡ in64 z
 in64-no z h = sym (ap (λ (b : Bool). cond b (Is z) (Refused OutOfRange)) (le-ltb (mag z) (2 ^ 63) h))
 
 -- -n, as the code makes it
-pub negated : (n : ℕ) → n ≤ 2 ^ 63 → lower (bias - n) ≡ negℤ (pos n)
-negated zero h = sub-high bias bias (lit≤ tt)
-negated (suc n) h = sub-low (bias - suc n) bias (omega arith) ∙ ap negsuc (omega arith)
-
 pub negated-yes : (n : ℕ) → n ≤ 2 ^ 63 → Is (negℤ (pos n)) ≡ in64 (negℤ (pos n))
 negated-yes zero h = refl
 negated-yes (suc n) h = in64-yes (negsuc n) (omega arith)

@@ -6,7 +6,7 @@ use lib.Ieee.{Float, binary64, toBits}
 use lib.Ieee.Nearest.{closest}
 use lib.Signed.{mag}
 use Rattle.rounding.specs.Rounding.{isExact}
-use Rattle.double.specs.Nearest.{withSign}
+use Rattle.signed.specs.Sign.{withSign}
 use Rattle.double.specs.declared.Displacement.{Displacement}
 use Rattle.double.specs.declared.Pattern.{Pattern}
 use Rattle.double.specs.declared.whole.Size.{Size}

@@ -2,15 +2,12 @@
 -- A finite double is ± m * 2 ^ e: s is its sign, true for minus, m its significand, and 2 ^ e the fraction up e / down e of whole numbers.
 -- On an axis with the reference R and P microseconds to its period, the exact time is R ± m * 2 ^ e * P. It is never rounded: all below counts in parts of a microsecond, of which down e make one.
 use mathlib.Core.Path.{_≡_}
-use mathlib.Core.Bool.{Bool, cond}
+use mathlib.Core.Bool.{Bool}
 use Prim.Native.Nat.{ℕ, _*_, _≤_, _%_}
-use lib.IntN.{ℤ, pos, negℤ, natAbs, _+ℤ_, _-ℤ_, _*ℤ_}
+use lib.IntN.{ℤ, pos, natAbs, _+ℤ_, _-ℤ_, _*ℤ_}
 use lib.Ieee.{up, down}
 use lib.Ieee.Nearest.{closest}
-
--- n with a sign. Minus zero is zero
-abbrev pub withSign : Bool → ℕ → ℤ
-withSign s n = cond s (negℤ (pos n)) (pos n)
+use Rattle.signed.specs.Sign.{withSign}
 
 -- m * 2 ^ e * P, in parts
 abbrev pub exactSize : ℕ → ℕ → ℤ → ℕ

@@ -8,7 +8,7 @@ use lib.Ieee.{Float, nan, inf, fin, up, down}
 use Rattle.refusal.specs.declared.Refusal.the-variants.{OutOfRange, Inexact, NotFinite}
 use Rattle.double.specs.declared.whole.Whole.{Whole}
 use Rattle.double.specs.declared.whole.Whole.the-variants.{Is, Refused}
-use Rattle.double.specs.Nearest.{withSign}
+use Rattle.signed.specs.Sign.{withSign}
 
 -- z where it is a signed number of 64 bits, from -2 ^ 63 to 2 ^ 63 - 1
 abbrev pub in64 : ℤ → Whole

@@ -8,7 +8,7 @@ ghost use lib.Dec.{T};
 ghost use lib.Ieee.{isNan};
 ghost use lib.Signed.{mag};
 ghost use Rattle.rounding.specs.Rounding.{RoundedTo};
-ghost use Rattle.double.specs.Nearest.{withSign};
+ghost use Rattle.signed.specs.Sign.{withSign};
 ghost use Rattle.double.specs.Displacement.{IsScale, IsSmall, DisplacementOf, DisplacementAnswerOf};
 ghost use Rattle.double.specs.Fields.{patternOf, fieldSize, PatternDisplacement};
 use rounding::Rounded;
@@ -84,18 +84,6 @@ fn scaled_size(field: u64, digits: u64, scale: Scale) -> Rounded
     rounding::round_high(high, low, 1021 + scale.shift - field)
 }
 
-// A size with its sign.
-pub fn signed_size(negative: bool, n: u64) -> i64
-    requires { ⌜ n < 2 ^ 63 ⌝ }
-    ensures { λ z. ⌜ z ≡ withSign negative n ⌝ }
-{
-    if negative {
-        signed::unbiased(0x8000_0000_0000_0000 - n)
-    } else {
-        signed::unbiased(0x8000_0000_0000_0000 + n)
-    }
-}
-
 // The nearest displacement of a finite double that is not too large for a scale, by its pattern.
 fn pattern_displacement(p: Pattern, scale: Scale) -> Displacement
     requires scaled { ⌜ IsScale scale ⌝ }
@@ -104,7 +92,7 @@ fn pattern_displacement(p: Pattern, scale: Scale) -> Displacement
 {
     let r = scaled_size(p.field, p.digits, scale);
     Displacement {
-        count: signed_size(p.negative, r.count),
+        count: signed::signed_size(p.negative, r.count),
         exact: r.exact,
     }
 }

@@ -1,7 +1,7 @@
 // A double as a whole 64-bit offset, for calendar mode. A reader may rely on `wholeOf` of specs/Whole.antt.
 ghost use mathlib.Core.Path.{_≡_};
 ghost use Prim.Native.Nat.{_<_, _^_};
-ghost use Rattle.double.specs.Nearest.{withSign};
+ghost use Rattle.signed.specs.Sign.{withSign};
 ghost use Rattle.double.specs.Whole.{wholeOf, in64};
 ghost use Rattle.double.specs.Fields.{WholeSize};
 use refusal::Refusal;

@@ -13,7 +13,7 @@ use Rattle.signed.proofs.Integers.{plus-minus, abs-neg, mag-plus, mag-minus}
 use Rattle.calendar.specs.declared.Calendar.{Calendar}
 use Rattle.instant.specs.Instant.{inRange}
 use Rattle.instant.proofs.Range.{small}
-use Rattle.double.specs.Nearest.{withSign}
+use Rattle.signed.specs.Sign.{withSign}
 
 pub signed-size : (s : Bool) (n : ℕ) → natAbs (withSign s n) ≡ n
 signed-size true n = abs-neg (pos n)

@@ -9,7 +9,7 @@ use lib.Dec.{ltb, lit≤, lit<}
 use lib.IntN.{ℤ, natAbs}
 use lib.Pow.{pow-add, pow-mono}
 use borrow.Author.Tests.{ltb-true, ltb-false}
-use Rattle.signed.specs.Bias.{lower}
+use Rattle.signed.specs.Bias.{unbiased}
 use Rattle.signed.proofs.Differences.{by-sign}
 use Rattle.axis_types.specs.Lengths.{lengthOf}
 use Rattle.axis_types.specs.declared.Period.{Period}
@@ -52,21 +52,21 @@ module _ (s : Scale) (S : IsScale s) (short : s .micros < 2 ^ 45) where
   pub few : L ≤ 2 ^ 60
   few = pow-mono {i = s .shift - 2} {j = 60} (omega (arith, S .few))
 
-  -- the offset k, raised by 2^63
+  -- the offset k, biased by 2^63
   module _ (k : ℕ) where
-    beyond : L ≤ natAbs (lower k) → 2 ^ 60 ≤ natAbs (lower k) * s .micros
+    beyond : L ≤ natAbs (unbiased k) → 2 ^ 60 ≤ natAbs (unbiased k) * s .micros
     beyond h = let m = mul-le-mul-right (s .micros) h in omega (arith, quarter, S .least)
 
-    pub too-low : k < 9223372036854775808 - L → Reaches false (s .micros) (lower k)
+    pub too-low : k < 9223372036854775808 - L → Reaches false (s .micros) (unbiased k)
     too-low h = beyond (by-sign (λ (z : ℤ). L ≤ natAbs z) k 9223372036854775808 (λ g. omega arith) (λ g. omega arith))
 
-    pub not-low : 9223372036854775808 - L ≤ k → Reaches (ltb k (9223372036854775808 + L)) (s .micros) (lower k)
+    pub not-low : 9223372036854775808 - L ≤ k → Reaches (ltb k (9223372036854775808 + L)) (s .micros) (unbiased k)
     not-low h = go (ltb k (9223372036854775808 + L)) refl
       where
-        go : (b : Bool) → ltb k (9223372036854775808 + L) ≡ b → Reaches b (s .micros) (lower k)
+        go : (b : Bool) → ltb k (9223372036854775808 + L) ≡ b → Reaches b (s .micros) (unbiased k)
         go true e =
             let l = ltb-true k (9223372036854775808 + L) e in
-            let n : natAbs (lower k) ≤ L = by-sign (λ (z : ℤ). natAbs z ≤ L) k 9223372036854775808 (λ g. omega arith) (λ g. omega arith) in
+            let n : natAbs (unbiased k) ≤ L = by-sign (λ (z : ℤ). natAbs z ≤ L) k 9223372036854775808 (λ g. omega arith) (λ g. omega arith) in
             let m = mul-le-mul-right (s .micros) n in
             omega (arith, quarter, S .most)
         go false e =

@@ -1,4 +1,4 @@
--- A displacement in periods, in natural numbers: the reference r and the instant k are raised by 2^63, P is the period.
+-- A displacement in periods, in natural numbers: the reference r and the instant k are biased by 2^63, P is the period.
 use mathlib.Core.Path.{_≡_, refl, sym, ap, _∙_}
 use mathlib.Core.Bool.{Bool, true, false, cond}
 use Prim.Native.Nat.{ℕ, suc, _+_, _-_, _*_, _/_, _%_, _<_, _≤_}
@@ -8,10 +8,10 @@ use lib.Dec.{eqb, ltb}
 use lib.IntN.{ℤ, pos, negsuc, negℤ, subℕ, _+ℤ_, _-ℤ_}
 use borrow.Author.Tests.{ltb-true, ltb-false}
 use Rattle.refusal.specs.declared.Refusal.the-variants.{Inexact}
-use Rattle.signed.specs.Bias.{lower}
+use Rattle.signed.specs.Bias.{unbiased}
 use Rattle.signed.proofs.Differences.{by-sign, sub-low, sub-high, same-diff}
 use Rattle.signed.proofs.Integers.{plus-minus}
-use Rattle.double.specs.Nearest.{withSign}
+use Rattle.signed.specs.Sign.{withSign}
 use Rattle.fixed_axis.specs.Fixed.{inPeriods}
 use Rattle.axis_types.specs.declared.OffsetAnswer.{OffsetAnswer}
 
@@ -36,22 +36,22 @@ pub half : (d P : ℕ) → 2 ≤ P → d / P * 2 ≤ d
 half d P h = le-trans (mul-le-mul-left (d / P) h) (div-mul-le-self d P)
 
 module _ (r k P : ℕ) where
-  periods-before : k < r → inPeriods (lower k -ℤ lower r) P ≡ cond (eqb ((r - k) % P) 0) (OffsetAnswer.Is (negℤ (pos ((r - k) / P)))) (OffsetAnswer.Refused Inexact)
+  periods-before : k < r → inPeriods (unbiased k -ℤ unbiased r) P ≡ cond (eqb ((r - k) % P) 0) (OffsetAnswer.Is (negℤ (pos ((r - k) / P)))) (OffsetAnswer.Refused Inexact)
   unfolding inPeriods
   periods-before h =
       let e : suc (r - suc k) ≡ r - k = omega arith in
       ap (λ (z : ℤ). inPeriods z P) (sub-minus k r 9223372036854775808 ∙ sub-low k r h)
       ∙ ap (λ (n : ℕ). cond (eqb (n % P) 0) (OffsetAnswer.Is (negℤ (pos (n / P)))) (OffsetAnswer.Refused Inexact)) e
 
-  periods-after : r ≤ k → inPeriods (lower k -ℤ lower r) P ≡ cond (eqb ((k - r) % P) 0) (OffsetAnswer.Is (pos ((k - r) / P))) (OffsetAnswer.Refused Inexact)
+  periods-after : r ≤ k → inPeriods (unbiased k -ℤ unbiased r) P ≡ cond (eqb ((k - r) % P) 0) (OffsetAnswer.Is (pos ((k - r) / P))) (OffsetAnswer.Refused Inexact)
   unfolding inPeriods
   periods-after h = ap (λ (z : ℤ). inPeriods z P) (sub-minus k r 9223372036854775808 ∙ sub-high k r h)
 
   -- one quotient serves both signs: s is the distance
-  pub periods : (s : ℕ) → s ≡ k - r + (r - k) → inPeriods (lower k -ℤ lower r) P ≡ cond (eqb (s % P) 0) (OffsetAnswer.Is (withSign (ltb k r) (s / P))) (OffsetAnswer.Refused Inexact)
+  pub periods : (s : ℕ) → s ≡ k - r + (r - k) → inPeriods (unbiased k -ℤ unbiased r) P ≡ cond (eqb (s % P) 0) (OffsetAnswer.Is (withSign (ltb k r) (s / P))) (OffsetAnswer.Refused Inexact)
   periods s e = go (ltb k r) refl
     where
-      go : (b : Bool) → ltb k r ≡ b → inPeriods (lower k -ℤ lower r) P ≡ cond (eqb (s % P) 0) (OffsetAnswer.Is (withSign b (s / P))) (OffsetAnswer.Refused Inexact)
+      go : (b : Bool) → ltb k r ≡ b → inPeriods (unbiased k -ℤ unbiased r) P ≡ cond (eqb (s % P) 0) (OffsetAnswer.Is (withSign b (s / P))) (OffsetAnswer.Refused Inexact)
       go true h =
           let l = ltb-true k r h in
           let d : r - k ≡ s = omega arith in

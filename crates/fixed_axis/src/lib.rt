@@ -127,7 +127,7 @@ pub fn write_instant(p: Period, reference: i64, t: i64) -> OffsetAnswer
     let to = signed::biased(t);
     let size = distance(from, to);
     if size % micros == 0 {
-        return OffsetAnswer::Is(double::signed_size(to < from, size / micros));
+        return OffsetAnswer::Is(signed::signed_size(to < from, size / micros));
     }
     return OffsetAnswer::Refused(Refusal::Inexact);
 }

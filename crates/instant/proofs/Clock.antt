@@ -7,7 +7,7 @@ use lib.Dec.{ltb}
 use lib.IntN.{ℤ, pos, negsuc}
 use lib.Signed.{mag, leZ}
 use borrow.Author.Tests.{ltb-true, leb-true}
-use Rattle.signed.specs.Bias.{lower}
+use Rattle.signed.specs.Bias.{unbiased}
 use Rattle.signed.proofs.Tests.{and-parts}
 use Rattle.signed.proofs.Differences.{by-sign, sub-low, sub-high, same-diff, times-plus}
 use Rattle.calendar.specs.Closed.{epochDay, firstDay, endDay}
@@ -49,12 +49,12 @@ day-small c (negsuc n) h =
 pub answered-small : (c : Calendar) (x : Date) (z : ℤ) → DayAnswer.Is z ≡ dayAnswer c x → mag z < 5000000
 answered-small c x z h = let n = answered c x z h in day-small c z (ap (λ (d : Date). inYears (d .year)) (n .is) ∙ n .inside)
 
--- ---- the day's beginning and a time of day: k is the day, raised by 2^63
-module _ (z : ℤ) (k s : ℕ) (small : mag z < 5000000) (e : lower k ≡ z) where
+-- ---- the day's beginning and a time of day: k is the day, biased by 2^63
+module _ (z : ℤ) (k s : ℕ) (small : mag z < 5000000) (e : unbiased k ≡ z) where
   pub day-near : (9223372036849775808 ≤ k) × (k < 9223372036859775808)
   day-near = by-sign (λ (w : ℤ). mag w < 5000000 → (9223372036849775808 ≤ k) × (k < 9223372036859775808)) k 9223372036854775808 (λ h m. (omega arith, omega arith)) (λ h m. (omega arith, omega arith)) (subst (λ (w : ℤ). mag w < 5000000) (sym e) small)
 
-  pub instant-at : lower ((k - 9223372036849775808) * 86400000000 + s + 8791372036854775808) ≡ instantAt z s
+  pub instant-at : unbiased ((k - 9223372036849775808) * 86400000000 + s + 8791372036854775808) ≡ instantAt z s
   instant-at =
       let n = day-near in
       same-diff ((k - 9223372036849775808) * 86400000000 + s + 8791372036854775808) 9223372036854775808 (k * 86400000000 + s) (9223372036854775808 * 86400000000) (omega arith)

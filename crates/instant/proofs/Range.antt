@@ -7,7 +7,7 @@ use lib.Dec.{leb}
 use lib.IntN.{ℤ, pos, negsuc}
 use lib.Signed.{mag, leZ}
 use borrow.Author.Tests.{le-leb, lt-leb, leb-true, leb-false}
-use Rattle.signed.specs.Bias.{lower}
+use Rattle.signed.specs.Bias.{unbiased}
 use Rattle.signed.proofs.Tests.{test-is, both, and-parts}
 use Rattle.signed.proofs.Order.{le-trans}
 use Rattle.signed.proofs.Differences.{common, by-sign, sub-le, times-plus}
@@ -57,8 +57,8 @@ unfolding dayOf
 small c (pos n) h = omega (arith, day-small c (pos (n / 86400000000)) h)
 small c (negsuc n) h = omega (arith, day-small c (negsuc (n / 86400000000)) h)
 
--- the same of an instant that is raised by 2^63
-pub near : (c : Calendar) (t : ℤ) (k : ℕ) → lower k ≡ t → inRange c t ≡ true → (8646911284551352320 ≤ k) × (k < 9799832789158199296)
+-- the same of an instant with its bias of 2^63
+pub near : (c : Calendar) (t : ℤ) (k : ℕ) → unbiased k ≡ t → inRange c t ≡ true → (8646911284551352320 ≤ k) × (k < 9799832789158199296)
 near c t k e h =
     by-sign (λ (z : ℤ). mag z < 432000000000000000 → (8646911284551352320 ≤ k) × (k < 9799832789158199296)) k 9223372036854775808 (λ g m. (omega arith, omega arith)) (λ g m. (omega arith, omega arith))
     (subst (λ (z : ℤ). mag z < 432000000000000000) (sym e) (small c t h))

@@ -4,7 +4,7 @@ ghost use mathlib.Core.Path.{_≡_};
 ghost use Prim.Native.Nat.{_<_};
 ghost use lib.IntN.{subℕ};
 ghost use lib.Signed.{mag};
-ghost use Rattle.signed.specs.Bias.{lower};
+ghost use Rattle.signed.specs.Bias.{unbiased};
 ghost use Rattle.calendar.specs.Closed.{epochDay, endDay};
 ghost use Rattle.instant.specs.Instant.{dayLength, dayOf, timeOf, instantAt, inRange, clockTime, isClock, fieldsAt, fieldsAnswer, instantAnswer};
 ghost use Rattle.instant.specs.Closed.{firstInstant, lastInstant};
@@ -47,14 +47,14 @@ pub fn instant_at(day: i64, time: u64) -> i64
     signed::unbiased(n * 86400000000 + time + (0x8000_0000_0000_0000 - 432000000000000000))
 }
 
-// The day of an instant, raised by 2^63, and its time of day.
+// The day of an instant, biased by 2^63, and its time of day.
 pub struct DayTime {
     pub day: u64,
     pub time: u64,
 }
 
 pub fn day_and_time(t: i64) -> DayTime
-    ensures { λ r. ⌜ (lower (r .day) ≡ dayOf t) × (r .time ≡ timeOf t) ⌝ }
+    ensures { λ r. ⌜ (unbiased (r .day) ≡ dayOf t) × (r .time ≡ timeOf t) ⌝ }
 {
     // 2^63 microseconds are 106751991 days and 14454775808 microseconds
     let k = signed::biased(t);

@@ -7,7 +7,7 @@ use lib.Dec.{leb}
 use lib.IntN.{ℤ, pos, negsuc, natAbs}
 use lib.Signed.{ltZ}
 use borrow.Author.Tests.{leb-true, le-ltb}
-use Rattle.signed.specs.Bias.{lower}
+use Rattle.signed.specs.Bias.{unbiased}
 use Rattle.signed.proofs.Differences.{sub-low, sub-high}
 use Rattle.grammar.proofs.Tests.{and-parts}
 use Rattle.calendar.specs.Calendar.{inYears}
@@ -27,7 +27,7 @@ year-sign (pos n) = le-ltb n 0 (omega arith)
 year-sign (negsuc n) = refl
 
 -- y is k - 2^63
-module _ (y : ℤ) (k : ℕ) (e : lower k ≡ y) where
+module _ (y : ℤ) (k : ℕ) (e : unbiased k ≡ y) where
   pub abs-low : k < 9223372036854775808 → 9223372036854775808 - k ≡ natAbs y
   abs-low h =
       let p : 9223372036854775808 - k ≡ suc (9223372036854775808 - suc k) = omega arith in

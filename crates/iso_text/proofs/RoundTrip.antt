@@ -21,13 +21,14 @@ use Rattle.instant.proofs.Theorems.{shown, time-small, instant-of-fields}
 use Rattle.date_text.specs.DateRule.{utc, dateRule}
 use Rattle.iso_form.proofs.Back.{Formed, read-back}
 use Rattle.iso_form.proofs.Laws.{iso-length}
-use Rattle.written_instant.specs.Instants.{signedOf, localFields, ranged, lessZone, writtenInstant}
+use Rattle.signed.specs.Sign.{withSign}
+use Rattle.written_instant.specs.Instants.{localFields, ranged, lessZone, writtenInstant}
 use Rattle.named_text.proofs.Laws.{text-named, text-read}
 use Rattle.calendar_name.specs.Names.{calendarOf}
 use Rattle.iso_text.proofs.Laws.{year-small}
 use Rattle.iso_text.specs.Iso.{isNegative, utcDate, textOf, readIso}
 
-signed-back : (y : ℤ) → signedOf (isNegative y) (natAbs y) ≡ y
+signed-back : (y : ℤ) → withSign (isNegative y) (natAbs y) ≡ y
 signed-back (pos n) = refl
 signed-back (negsuc n) = refl
 

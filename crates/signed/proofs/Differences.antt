@@ -10,7 +10,7 @@ use lib.Signed.{leZ, ltZ, mag}
 use mir.Syntax.{w64}
 use mir.Val.{SFits}
 use borrow.Author.Tests.{ltb-true, ltb-false, lt-ltb, le-ltb, le-leb, lt-leb, leb-true, leb-false, not-true, not-false}
-use Rattle.signed.specs.Bias.{lift, raise, lower}
+use Rattle.signed.specs.Bias.{lift, biased, unbiased}
 use Rattle.signed.proofs.Tests.{test-is}
 use Rattle.signed.proofs.Order.{lt-not-le}
 
@@ -52,8 +52,8 @@ pub sub-inj : (m n b : ℕ) → subℕ m b ≡ subℕ n b → m ≡ n
 sub-inj m n b e = sym (lift-sub m b) ∙ (ap (λ (z : ℤ). lift z b) e ∙ lift-sub n b)
 
 -- a signed 64-bit number is its natural number less 2^63
-pub lower-raise : (z : ℤ) → SFits w64 z → lower (raise z) ≡ z
-lower-raise z f = lift-is z 9223372036854775808 (λ e. omega (arith, f .sfits))
+pub unbiased-biased : (z : ℤ) → SFits w64 z → unbiased (biased z) ≡ z
+unbiased-biased z f = lift-is z 9223372036854775808 (λ e. omega (arith, f .sfits))
 
 -- ---- equal differences, neighbours, order
 

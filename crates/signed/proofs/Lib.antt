@@ -4,3 +4,4 @@ pub mod Differences
 pub mod Lexicographic
 pub mod Integers
 pub mod Machine
+pub mod Signs

@@ -10,8 +10,8 @@ use mir.Syntax.{w64}
 use mir.Val.{SFits, toZ, ofZ}
 use mir.ValLaws.{toZ-ofZ, toZ-pos}
 use borrow.Author.Tests.{ltb-true}
-use Rattle.signed.specs.Bias.{raise, lower}
-use Rattle.signed.proofs.Differences.{sub-high, lower-raise}
+use Rattle.signed.specs.Bias.{biased, unbiased}
+use Rattle.signed.proofs.Differences.{sub-high, unbiased-biased}
 
 -- z as the machine reads it
 abbrev pub read : ℤ → ℤ
@@ -54,5 +54,5 @@ pub below-read : (k : ℕ) → k < 2 ^ 63 → read (negsuc 0 -ℤ toZ w64 k) ≡
 below-read k h = toZ-ofZ w64 (negsuc 0 -ℤ toZ w64 k) (below-fits k h) ∙ (ap (λ (x : ℤ). negsuc 0 -ℤ x) (toZ-pos w64 k h) ∙ minus-one k)
 
 -- after `let k = biased(z)`: z is k - 2^63
-pub crossed : (z : ℤ) (k : ℕ) → SFits w64 z → k ≡ raise (read z) → lower k ≡ z
-crossed z k f e = ap lower (e ∙ ap raise (toZ-ofZ w64 z f)) ∙ lower-raise z f
+pub crossed : (z : ℤ) (k : ℕ) → SFits w64 z → k ≡ biased (read z) → unbiased k ≡ z
+crossed z k f e = ap unbiased (e ∙ ap biased (toZ-ofZ w64 z f)) ∙ unbiased-biased z f

@@ -11,9 +11,9 @@ lift (negsuc n) b = b - suc n
 abbrev pub bias : ℕ
 bias = 9223372036854775808
 
-abbrev pub raise : ℤ → ℕ
-raise z = lift z bias
+abbrev pub biased : ℤ → ℕ
+biased z = lift z bias
 
 -- `subℕ k b` is the integer k - b
-abbrev pub lower : ℕ → ℤ
-lower k = subℕ k bias
+abbrev pub unbiased : ℕ → ℤ
+unbiased k = subℕ k bias

@@ -1,1 +1,2 @@
 pub mod Bias
+pub mod Sign

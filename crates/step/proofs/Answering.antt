@@ -7,7 +7,7 @@ use native.Mathlib.Omega.{arith}
 use lib.Dec.{leb, ltb}
 use lib.IntN.{ℤ, subℕ}
 use borrow.Author.Tests.{le-leb, lt-leb, leb-true, leb-false, lt-ltb, le-ltb, ltb-true}
-use Rattle.signed.specs.Bias.{lower}
+use Rattle.signed.specs.Bias.{unbiased}
 use Rattle.signed.proofs.Tests.{test-is, both, and-parts, left-out, right-out}
 use Rattle.signed.proofs.Differences.{same-diff}
 use Rattle.calendar.specs.Calendar.{hasYearZero, inYears}
@@ -34,7 +34,7 @@ pub steps-few : (part : Part) (n b i j : ℕ) → i < 240000 → j < 240000 → 
 steps-few Part.Month n b i j p q e = (omega arith, omega arith)
 steps-few Part.Year n b i j p q e = (omega arith, omega arith)
 
--- 240000 steps or more, raised by 2^63, lead out of the months
+-- 240000 steps or more, biased by 2^63, lead out of the months
 pub far-below : (part : Part) (i k : ℕ) → i < 240000 → k < 9223372036854535808 → i + k * monthsOf part < 9223372036854775808 * monthsOf part
 far-below Part.Month i k p q = omega arith
 far-below Part.Year i k p q = omega arith
@@ -44,7 +44,7 @@ far-above Part.Month i k p = omega arith
 far-above Part.Year i k p = omega arith
 
 -- a number raised by 240000
-pub raised-is : (k : ℕ) → 9223372036854535808 ≤ k → subℕ (k - 9223372036854535808) 240000 ≡ lower k
+pub raised-is : (k : ℕ) → 9223372036854535808 ≤ k → subℕ (k - 9223372036854535808) 240000 ≡ unbiased k
 raised-is k h = same-diff (k - 9223372036854535808) 240000 k 9223372036854775808 (omega arith)
 
 -- the months of the years -9999 to 9999

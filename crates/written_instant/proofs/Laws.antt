@@ -1,4 +1,4 @@
--- Instants with a zone taken off: sums and differences of integers as natural numbers that are raised by 2^63, and the range.
+-- Instants with a zone taken off: sums and differences of integers as natural numbers with their bias of 2^63, and the range.
 use mathlib.Core.Path.{_≡_, refl, sym, ap, _∙_}
 use mathlib.Core.Bool.{Bool, true, false, cond}
 use Prim.Native.Nat.{ℕ, zero, suc, _+_, _-_, _≤_, _<_}
@@ -7,7 +7,7 @@ use lib.IntN.{ℤ, pos, negsuc, negℤ, subℕ, _+ℤ_, _-ℤ_, +ℤ-idr, negℤ
 use lib.Dec.{ltb}
 use borrow.Author.Tests.{lt-ltb, le-ltb}
 use Rattle.refusal.specs.declared.Refusal.{Refusal}
-use Rattle.signed.specs.Bias.{lower}
+use Rattle.signed.specs.Bias.{unbiased}
 use Rattle.signed.proofs.Differences.{by-sign, sub-low, sub-high, same-diff}
 use Rattle.calendar.specs.declared.Calendar.{Calendar}
 use Rattle.instant.specs.Instant.{inRange, instantAnswer}
@@ -16,7 +16,8 @@ use Rattle.instant.specs.declared.InstantAnswer.{InstantAnswer}
 use Rattle.instant.proofs.Theorems.{shown, fields-of-instant}
 use Rattle.date_text.specs.declared.Zone.{Zone}
 use Rattle.date_text.specs.declared.WrittenDate.{WrittenDate}
-use Rattle.written_instant.specs.Instants.{signedOf, zoneLength, ahead, ranged, lessZone}
+use Rattle.signed.specs.Sign.{withSign}
+use Rattle.written_instant.specs.Instants.{zoneLength, ahead, ranged, lessZone}
 
 -- ---- sums and differences
 
@@ -34,23 +35,16 @@ sub-minus a b (suc s) =
     (λ h. same-diff (a - b) (suc s) a (b + suc s) (omega arith))
 
 -- t is k - 2^63, and m is taken off or added
-module _ (t : ℤ) (k m : ℕ) (e : lower k ≡ t) where
-  pub taken-off : m ≤ k → lower (k - m) ≡ t -ℤ signedOf false m
+module _ (t : ℤ) (k m : ℕ) (e : unbiased k ≡ t) where
+  pub taken-off : m ≤ k → unbiased (k - m) ≡ t -ℤ withSign false m
   taken-off h = same-diff (k - m) 9223372036854775808 k (9223372036854775808 + m) (omega arith) ∙ sym (sub-minus k 9223372036854775808 m) ∙ ap (λ (z : ℤ). z -ℤ pos m) e
 
-  pub added : lower (k + m) ≡ t -ℤ signedOf true m
+  pub added : unbiased (k + m) ≡ t -ℤ withSign true m
   added = sym (sub-plus k 9223372036854775808 m) ∙ (λ i. e i +ℤ sym (negℤ-negℤ (pos m)) i)
 
-pub signed-minus : (n : ℕ) → n ≤ 9223372036854775808 → lower (9223372036854775808 - n) ≡ signedOf true n
-signed-minus zero h = refl
-signed-minus (suc n) h = sub-low (9223372036854775808 - suc n) 9223372036854775808 (omega arith) ∙ ap negsuc (omega arith)
-
-pub signed-plus : (n : ℕ) → lower (9223372036854775808 + n) ≡ signedOf false n
-signed-plus n = sub-high (9223372036854775808 + n) 9223372036854775808 (omega arith) ∙ ap pos (omega arith)
-
-no-zone : (t : ℤ) (b : Bool) (m : ℕ) → m ≡ 0 → t ≡ t -ℤ signedOf b m
-no-zone t true m e = sym (+ℤ-idr t) ∙ ap (λ (n : ℕ). t -ℤ signedOf true n) (sym e)
-no-zone t false m e = sym (+ℤ-idr t) ∙ ap (λ (n : ℕ). t -ℤ signedOf false n) (sym e)
+no-zone : (t : ℤ) (b : Bool) (m : ℕ) → m ≡ 0 → t ≡ t -ℤ withSign b m
+no-zone t true m e = sym (+ℤ-idr t) ∙ ap (λ (n : ℕ). t -ℤ withSign true n) (sym e)
+no-zone t false m e = sym (+ℤ-idr t) ∙ ap (λ (n : ℕ). t -ℤ withSign false n) (sym e)
 
 -- ---- the range
 

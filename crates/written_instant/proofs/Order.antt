@@ -22,7 +22,8 @@ use Rattle.instant.specs.Instant.{dayLength, dateIn, isClock, clockTime, withCl
 use Rattle.instant.specs.declared.InstantAnswer.{InstantAnswer}
 use Rattle.date_text.specs.declared.WrittenDate.{WrittenDate}
 use Rattle.date_text.specs.DateRule.{dateRule}
-use Rattle.written_instant.specs.Instants.{signedOf, localFields, isZone, ahead, ranged, lessZone, writtenInstant}
+use Rattle.signed.specs.Sign.{withSign}
+use Rattle.written_instant.specs.Instants.{localFields, isZone, ahead, ranged, lessZone, writtenInstant}
 
 -- a date that is read has a year of at most four digits
 pub year-read : (s : List ℕ) (w : WrittenDate) → read dateRule s ≡ some w → w .year ≤ 9999
@@ -39,7 +40,7 @@ existsWritten c w = (exists c (dateIn (localFields w)) && isClock (localFields w
 abbrev pub localInstant : Calendar → WrittenDate → ℤ
 localInstant c w = dayNumber c (dateIn (localFields w)) *ℤ pos dayLength +ℤ pos (clockTime (localFields w))
 
-signed-in : (b : Bool) (n : ℕ) → n ≤ 9999 → inYears (signedOf b n) ≡ true
+signed-in : (b : Bool) (n : ℕ) → n ≤ 9999 → inYears (withSign b n) ≡ true
 signed-in true zero h = refl
 signed-in true (suc n) h = rw (le-leb n 9998 (omega arith))
 signed-in false n h = le-leb n 9999 h

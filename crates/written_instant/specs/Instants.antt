@@ -4,6 +4,7 @@ use mathlib.Core.Bool.{Bool, true, false, _&&_, cond}
 use Prim.Native.Nat.{ℕ, _+_, _*_}
 use lib.Dec.{ltb}
 use lib.IntN.{ℤ, pos, negℤ, _-ℤ_}
+use Rattle.signed.specs.Sign.{withSign}
 use Rattle.refusal.specs.declared.Refusal.the-variants.{NoSuchDate, OutOfRange}
 use Rattle.calendar.specs.declared.Calendar.{Calendar}
 use Rattle.instant.specs.Instant.{inRange, instantAnswer}
@@ -12,15 +13,10 @@ use Rattle.instant.specs.declared.InstantAnswer.{InstantAnswer}
 use Rattle.date_text.specs.declared.Zone.{Zone}
 use Rattle.date_text.specs.declared.WrittenDate.{WrittenDate}
 
--- a number with or without a minus; -0 is 0
-abbrev pub signedOf : Bool → ℕ → ℤ
-signedOf true n = negℤ (pos n)
-signedOf false n = pos n
-
 abbrev pub localFields : WrittenDate → Fields
 localFields w =
     record {
-      year = signedOf (w .negative) (w .year);
+      year = withSign (w .negative) (w .year);
       month = w .month;
       day = w .day;
       hour = w .time .hour;
@@ -40,7 +36,7 @@ zoneLength z = (z .hours * 60 + z .minutes) * 60000000
 
 -- the microseconds by which local time is ahead of UTC
 abbrev pub ahead : Zone → ℤ
-ahead z = signedOf (z .behind) (zoneLength z)
+ahead z = withSign (z .behind) (zoneLength z)
 
 -- ---- the instant
 

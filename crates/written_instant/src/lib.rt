@@ -3,23 +3,13 @@ ghost use mathlib.Core.Path.{_≡_};
 ghost use mathlib.Core.Bool.{true};
 ghost use Rattle.instant.specs.Instant.{inRange};
 ghost use Rattle.instant.specs.declared.InstantAnswer.{InstantAnswer};
-ghost use Rattle.written_instant.specs.Instants.{signedOf, ranged, lessZone, writtenInstant};
+ghost use Rattle.written_instant.specs.Instants.{ranged, lessZone, writtenInstant};
 use calendar::Calendar;
 use date_text::WrittenDate;
 use date_text::Zone;
 use instant::Fields;
 use instant::InstantAnswer;
 use refusal::Refusal;
-
-// A number with or without a minus.
-fn signed_of(negative: bool, n: u32) -> i64
-    ensures { λ r. ⌜ r ≡ signedOf negative n ⌝ }
-{
-    if negative {
-        return signed::unbiased(0x8000_0000_0000_0000 - (n as u64));
-    }
-    return signed::unbiased(0x8000_0000_0000_0000 + (n as u64));
-}
 
 // An instant, or that its year lies past -9999 to 9999.
 fn ranged_instant(c: Calendar, t: i64) -> InstantAnswer
@@ -60,7 +50,7 @@ pub fn written_instant(c: Calendar, w: WrittenDate) -> InstantAnswer
     let t = w.time;
     let z = t.zone;
     let f = Fields {
-        year: signed_of(w.negative, w.year),
+        year: signed::signed_size(w.negative, w.year as u64),
         month: w.month,
         day: w.day,
         hour: t.hour,

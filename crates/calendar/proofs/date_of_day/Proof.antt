@@ -2,7 +2,7 @@
 use mathlib.Core.Path.{sym, ap, _∙_}
 use Rattle.calendar.specs.declared.DateAnswer.{DateAnswer}
 use Rattle.calendar.proofs.Answering.{in-range, out-of-range}
-use Rattle.signed.specs.Bias.{lower}
+use Rattle.signed.specs.Bias.{unbiased}
 use Rattle.signed.proofs.Machine.{crossed}
 use Rattle.calendar.specs.Answers.{dateAnswer}
 use borrow.Author.Needs.{needs}
@@ -24,7 +24,7 @@ returns c =
     let b = d .before in
     let s = b .before in
     ap DateAnswer.Is (c .date-in-years .ensures)
-    ∙ (in-range (s .args .c) (lower (b .biased .result)) (sym (d .day-in-years .ensures) ∙ c .before .if1 .taken)
+    ∙ (in-range (s .args .c) (unbiased (b .biased .result)) (sym (d .day-in-years .ensures) ∙ c .before .if1 .taken)
     ∙ ap (dateAnswer (s .args .c)) (crossed (s .args .n) (b .biased .result) (s .fits .n) (b .biased .ensures)))
 
 returns-2 : tie.Need-returns-2
@@ -32,7 +32,7 @@ returns-2 c =
     let d = c .before in
     let b = d .before in
     let s = b .before in
-    out-of-range (s .args .c) (lower (b .biased .result)) (sym (d .day-in-years .ensures) ∙ c .if1 .left)
+    out-of-range (s .args .c) (unbiased (b .biased .result)) (sym (d .day-in-years .ensures) ∙ c .if1 .left)
     ∙ ap (dateAnswer (s .args .c)) (crossed (s .args .n) (b .biased .result) (s .fits .n) (b .biased .ensures))
 
 pub date-of-day-spec : {M : Type 1} → statement M

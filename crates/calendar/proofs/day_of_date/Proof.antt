@@ -8,7 +8,7 @@ use mir.Syntax.{w64}
 use mir.Val.{SFits}
 use mir.ValLaws.{toZ-ofZ}
 use borrow.Author.Tests.{le-leb, lt-leb, leb-true}
-use Rattle.signed.specs.Bias.{lower}
+use Rattle.signed.specs.Bias.{unbiased}
 use Rattle.signed.proofs.Tests.{both, and-parts, left-out, right-out}
 use Rattle.signed.proofs.Machine.{crossed}
 use Rattle.calendar.specs.Calendar.{hasYearZero, inYears, exists, date}
@@ -22,8 +22,8 @@ use borrow.Author.Needs.{needs}
 use Rattle.calendar.proofs.day_of_date.Statement.{statement}
 use Rattle.calendar.proofs.day_of_date.Tie as tie
 
--- the year, from its number raised by 2^63
-year-is : (b : tie.After-biased) → lower (b .biased .result) ≡ b .before .before .args .x .year
+-- the year, from its number biased by 2^63
+year-is : (b : tie.After-biased) → unbiased (b .biased .result) ≡ b .before .before .args .x .year
 year-is b =
     let y = b .before .before .args .x .year in
     let f : SFits w64 y = search needs in
@@ -44,7 +44,7 @@ count-is c =
     let n = c .before .before in
     let z = n .before .has-year-zero in
     let b = n .before .before .before .before in
-    let told : Counted (z .result) (lower (b .biased .result)) (YearCount.Is (c .y .given .0 .0)) = subst (Counted (z .result) (lower (b .biased .result))) (c .y .given .1) (n .year-count .ensures) in
+    let told : Counted (z .result) (unbiased (b .biased .result)) (YearCount.Is (c .y .given .0 .0)) = subst (Counted (z .result) (unbiased (b .biased .result))) (c .y .given .1) (n .year-count .ensures) in
     ap (λ (t : Bool). yearAt t (c .y .given .0 .0)) (sym (z .ensures)) ∙ (told ∙ year-is b)
 
 -- the date, by the count of its year
@@ -95,7 +95,7 @@ returns-3 c =
     let n = c .before .before in
     let e = n .before .before in
     let s = e .before .before .before .before in
-    let told : Counted (n .before .has-year-zero .result) (lower (e .before .before .biased .result)) YearCount.Missing = subst (Counted (n .before .has-year-zero .result) (lower (e .before .before .biased .result))) (c .enum-told .given .1) (n .year-count .ensures) in
+    let told : Counted (n .before .has-year-zero .result) (unbiased (e .before .before .biased .result)) YearCount.Missing = subst (Counted (n .before .has-year-zero .result) (unbiased (e .before .before .biased .result))) (c .enum-told .given .1) (n .year-count .ensures) in
     date-missing (s .args .c) (s .args .x) (inside e) (not-there (s .args .c) (s .args .x) (λ v. true≢false (sym (no-year (s .args .c) (s .args .x .year) (sym (n .before .has-year-zero .ensures) ∙ told .0) (sym (year-is (e .before .before)) ∙ told .1)) ∙ valid-year (s .args .c) (s .args .x) v)))
 
 enum-known-y : tie.Need-enum-known-y

@@ -3,7 +3,7 @@ use mathlib.Core.Path.{ap}
 use Prim.Native.Nat.{_-_}
 use native.Mathlib.Omega.{arith}
 use borrow.Author.Tests.{le-leb, lt-leb}
-use Rattle.signed.specs.Bias.{lower}
+use Rattle.signed.specs.Bias.{unbiased}
 use Rattle.signed.proofs.Differences.{same-diff}
 use borrow.Author.Needs.{needs}
 use Rattle.calendar.proofs.year_count.Statement.{statement}
@@ -30,7 +30,7 @@ returns-2 c =
     rw (c .before .if1 .left, le-leb (k - 9223372036854765807) 10000 (omega (arith, c .if2 .taken))) (same-diff (k - 9223372036854765807) 10001 k 9223372036854775808 (omega (arith, c .before .before .pre)))
 
 returns-3 : tie.Need-returns-3
-returns-3 c = (c .before .before .if1 .left, ap lower (c .if3 .taken))
+returns-3 c = (c .before .before .if1 .left, ap unbiased (c .if3 .taken))
 
 sub-t8 : tie.Need-sub-t8
 sub-t8 c = search needs

@@ -8,7 +8,7 @@ use lib.Signed.{mag}
 use mir.Syntax.{w64}
 use mir.ValLaws.{toZ-ofZ}
 use borrow.Author.Needs.{needs}
-use Rattle.double.specs.Nearest.{withSign}
+use Rattle.signed.specs.Sign.{withSign}
 use Rattle.double.proofs.Scaling.{bounded}
 use Rattle.double.proofs.Values.{signed-le}
 use Rattle.double.proofs.pattern_displacement.Statement.{statement}

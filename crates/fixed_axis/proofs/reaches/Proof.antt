@@ -7,7 +7,7 @@ use lib.Dec.{ltb, lit≤}
 use lib.IntN.{ℤ}
 use lib.Pow.{shl-exact}
 use borrow.Author.Needs.{needs}
-use Rattle.signed.specs.Bias.{lower}
+use Rattle.signed.specs.Bias.{unbiased}
 use Rattle.signed.proofs.Machine.{crossed}
 use Rattle.double.specs.declared.Scale.{Scale}
 use Rattle.axis_types.specs.Lengths.{lengthOf}
@@ -35,8 +35,8 @@ module _ (c : tie.After-scale-of) where
   most-le : 1 * 2 ^ (s .shift - 2) % 2 ^ 64 ≤ 2 ^ 60
   most-le = subst (λ (n : ℕ). n ≤ 2 ^ 60) (sym most-is) (few s (c .scale-of .ensures .1) short)
 
--- an answer for the offset raised by 2^63 is one for the offset
-answered : (b : tie.After-biased) (t : Bool) → let q = b .before .before in Reaches t (s q .micros) (lower (b .biased .result)) → Reaches t (lengthOf (a q .args .p)) (a q .args .n)
+-- an answer for the offset biased by 2^63 is one for the offset
+answered : (b : tie.After-biased) (t : Bool) → let q = b .before .before in Reaches t (s q .micros) (unbiased (b .biased .result)) → Reaches t (lengthOf (a q .args .p)) (a q .args .n)
 answered b t r =
     let q = b .before .before in
     subst (λ (P : ℕ). Reaches t P (a q .args .n)) (q .scale-of .ensures .0)
@@ -72,7 +72,7 @@ returns-2 c =
     let q = b .before .before in
     let k = b .biased .result in
     answered b (ltb k (9223372036854775808 + 1 * 2 ^ (s q .shift - 2) % 2 ^ 64))
-    (subst (λ (n : ℕ). Reaches (ltb k (9223372036854775808 + n)) (s q .micros) (lower k)) (sym (most-is q))
+    (subst (λ (n : ℕ). Reaches (ltb k (9223372036854775808 + n)) (s q .micros) (unbiased k)) (sym (most-is q))
     (not-low (s q) (q .scale-of .ensures .1) (short q) k (subst (λ (n : ℕ). 9223372036854775808 - n ≤ k) (most-is q) (c .if1 .left))))
 
 pub reaches-spec : {M : Type 1} → statement M

@@ -12,7 +12,7 @@ use borrow.Author.Tests.{eq-eqb, ne-eqb}
 use Rattle.refusal.specs.declared.Refusal.the-variants.{Inexact}
 use Rattle.signed.proofs.Machine.{crossed}
 use Rattle.axis_types.specs.declared.OffsetAnswer.{OffsetAnswer}
-use Rattle.double.specs.Nearest.{withSign}
+use Rattle.signed.specs.Sign.{withSign}
 use Rattle.fixed_axis.specs.Fixed.{inPeriods, writeInstant}
 use Rattle.fixed_axis.proofs.Periods.{lengths}
 use Rattle.fixed_axis.proofs.Writing.{half, periods}

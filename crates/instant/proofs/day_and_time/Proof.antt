@@ -1,14 +1,14 @@
 -- `instant::day_and_time` meets its contract. proofs/Days.antt has the quotients.
 use mathlib.Core.Path.{_≡_, ap, _∙_}
 use borrow.Author.Needs.{needs}
-use Rattle.signed.specs.Bias.{lower}
+use Rattle.signed.specs.Bias.{unbiased}
 use Rattle.signed.proofs.Machine.{crossed}
 use Rattle.instant.specs.Instant.{dayOf, timeOf}
 use Rattle.instant.proofs.Days.{day-early, time-early, day-late, time-late}
 use Rattle.instant.proofs.day_and_time.Statement.{statement}
 use Rattle.instant.proofs.day_and_time.Tie as tie
 
-instant-is : (b : tie.After-biased) → lower (b .biased .result) ≡ b .before .args .t
+instant-is : (b : tie.After-biased) → unbiased (b .biased .result) ≡ b .before .args .t
 instant-is b = crossed (b .before .args .t) (b .biased .result) (b .before .fits .t) (b .biased .ensures)
 
 biased-requires : tie.Need-biased-requires

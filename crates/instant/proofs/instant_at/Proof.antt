@@ -5,14 +5,14 @@ use native.Mathlib.Omega.{arith}
 use mir.Syntax.{w64}
 use mir.ValLaws.{toZ-ofZ}
 use borrow.Author.Needs.{needs}
-use Rattle.signed.specs.Bias.{lower}
+use Rattle.signed.specs.Bias.{unbiased}
 use Rattle.signed.proofs.Machine.{crossed}
 use Rattle.instant.proofs.Clock.{day-near, instant-at}
 use Rattle.instant.proofs.instant_at.Statement.{statement}
 use Rattle.instant.proofs.instant_at.Tie as tie
 
 module _ (b : tie.After-biased) where
-  day-is : lower (b .biased .result) ≡ b .before .args .day
+  day-is : unbiased (b .biased .result) ≡ b .before .args .day
   day-is = crossed (b .before .args .day) (b .biased .result) (b .before .fits .day) (b .biased .ensures)
 
   near : (9223372036849775808 ≤ b .biased .result) × (b .biased .result < 9223372036859775808)

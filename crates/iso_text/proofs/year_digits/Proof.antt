@@ -1,15 +1,15 @@
--- `iso_text::year_digits` meets its contract: the absolute value of a number that is raised by 2^63.
+-- `iso_text::year_digits` meets its contract: the absolute value of a number with its bias of 2^63.
 use borrow.Author.Needs.{needs}
 use native.Mathlib.Omega.{arith}
 use mathlib.Core.Path.{_≡_}
-use Rattle.signed.specs.Bias.{lower}
+use Rattle.signed.specs.Bias.{unbiased}
 use Rattle.signed.proofs.Machine.{crossed}
 use Rattle.iso_text.proofs.Laws.{year-small, abs-low, abs-high}
 use Rattle.iso_text.proofs.year_digits.Statement.{statement}
 use Rattle.iso_text.proofs.year_digits.Tie as tie
 
--- the year as a number that is raised by 2^63
-raised : (b : tie.After-biased) → lower (b .biased .result) ≡ b .before .args .y
+-- the year as a number with its bias of 2^63
+raised : (b : tie.After-biased) → unbiased (b .biased .result) ≡ b .before .args .y
 raised b = crossed (b .before .args .y) (b .biased .result) (b .before .fits .y) (b .biased .ensures)
 
 biased-requires : tie.Need-biased-requires

@@ -8,7 +8,7 @@ use Rattle.grammar.specs.Reader.{read}
 use Rattle.grammar.specs.Rules.{number}
 use Rattle.axis_types.specs.declared.Offset.{Offset}
 use lib.IntN.{ℤ}
-use Rattle.double.proofs.WholeSize.{negated}
+use Rattle.signed.proofs.Signs.{signed-minus}
 use Rattle.offset_text.specs.OffsetRule.{offsetAnswer}
 use Rattle.offset_text.specs.Closed.{digitsIn}
 use Rattle.offset_text.specs.declared.Number.{Number}
@@ -50,7 +50,7 @@ returns-3 c =
     let d = k .before .before in
     let u = c .unbiased .result in
     let n = k .n .given .0 .0 in
-    ap (λ (z : ℤ). OffsetText.Read (Offset.Whole z)) (toZ-ofZ w64 u (record { sfits = c .unbiased .ok }) ∙ (c .unbiased .ensures ∙ negated n (omega arith)))
+    ap (λ (z : ℤ). OffsetText.Read (Offset.Whole z)) (toZ-ofZ w64 u (record { sfits = c .unbiased .ok }) ∙ (c .unbiased .ensures ∙ signed-minus n (omega arith)))
     ∙ sym (ap offsetAnswer (whole-is _ _ (d .before .before .args .s .now) n (found d (k .n .given .1)) (omega arith)))
 
 pub read-negative-spec : {M : Type 1} → statement M

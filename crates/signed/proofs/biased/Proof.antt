@@ -8,7 +8,7 @@ use lib.Signed.{nonNeg}
 use mir.Syntax.{w64}
 use mir.Val.{Fits}
 use borrow.Author.Needs.{needs}
-use Rattle.signed.specs.Bias.{raise}
+use Rattle.signed.specs.Bias.{biased}
 use Rattle.signed.proofs.Machine.{Negative, Positive, negative, positive}
 use Rattle.signed.proofs.biased.Statement.{statement}
 use Rattle.signed.proofs.biased.Tie as tie
@@ -32,7 +32,7 @@ sub-result-3 : tie.Need-sub-result-3
 sub-result-3 c = omega (arith, ap natAbs (below c .is), below c .small)
 
 returns : tie.Need-returns
-returns c = ap (λ (z : ℤ). 9223372036854775807 - natAbs z) (below c .is) ∙ (omega arith ∙ ap raise (sym (below c .form)))
+returns c = ap (λ (z : ℤ). 9223372036854775807 - natAbs z) (below c .is) ∙ (omega arith ∙ ap biased (sym (below c .form)))
 
 cast-result-2 : tie.Need-cast-result-2
 cast-result-2 c = subst (λ (z : ℤ). T (nonNeg z) × Fits w64 (natAbs z)) (sym (above c .is)) (tt, record { fits = omega (arith, above c .small) })
@@ -41,7 +41,7 @@ add-result : tie.Need-add-result
 add-result c = record { fits = omega (arith, ap natAbs (above c .is), above c .small) }
 
 returns-2 : tie.Need-returns-2
-returns-2 c = ap (λ (z : ℤ). natAbs z + 9223372036854775808) (above c .is) ∙ ap raise (sym (above c .form))
+returns-2 c = ap (λ (z : ℤ). natAbs z + 9223372036854775808) (above c .is) ∙ ap biased (sym (above c .form))
 
 pub biased-spec : {M : Type 1} → statement M
 biased-spec =

@@ -6,7 +6,7 @@ use native.Mathlib.Omega.{arith}
 use lib.IntN.{ℤ}
 use mir.Syntax.{w64}
 use mir.ValLaws.{toZ-ofZ}
-use Rattle.signed.specs.Bias.{lower}
+use Rattle.signed.specs.Bias.{unbiased}
 use Rattle.signed.proofs.Machine.{crossed}
 use Rattle.calendar.specs.Calendar.{exists, dateOf, inYears}
 use Rattle.step.specs.Closed.{monthAt, monthCount, monthsOf}
@@ -24,7 +24,7 @@ module _ (b : tie.After-biased) where
   abbrev k : ℕ
   k = b .biased .result
 
-  offset-is : lower k ≡ start .args .n
+  offset-is : unbiased k ≡ start .args .n
   offset-is = crossed (start .args .n) k (start .fits .n) (b .biased .ensures)
 
   known : (z : ℤ) → z ≡ start .args .n → inYears (dateAfter (start .args .part) (start .args .c) z (start .args .x) .year) ≡ true
@@ -32,7 +32,7 @@ module _ (b : tie.After-biased) where
 
   near : (9223372036854535808 ≤ k) × (k < 9223372036855015808)
   near =
-      let w = inside (start .args .c) (start .args .x) (start .args .y) (start .pre .0) (start .args .part) k 9223372036854775808 (known (lower k) offset-is) .few in
+      let w = inside (start .args .c) (start .args .x) (start .args .y) (start .pre .0) (start .args .part) k 9223372036854775808 (known (unbiased k) offset-is) .few in
       (omega arith, omega arith)
 
   -- the number of steps, raised by 240000

@@ -7,7 +7,7 @@ use lib.IntN.{ℤ, subℕ}
 use mir.Syntax.{w64}
 use mir.ValLaws.{toZ-ofZ}
 use Rattle.refusal.specs.declared.Refusal.the-variants.{OutOfRange}
-use Rattle.signed.specs.Bias.{lower}
+use Rattle.signed.specs.Bias.{unbiased}
 use Rattle.signed.proofs.Machine.{crossed}
 use Rattle.calendar.specs.Calendar.{exists, inYears}
 use Rattle.calendar.specs.Answers.{dayAnswer}
@@ -38,11 +38,11 @@ module _ (b : tie.After-biased) where
   small : count < 240000
   small = count-small (start .args .c) (start .args .x) (start .args .y) (start .pre)
 
-  offset-is : lower k ≡ start .args .n
+  offset-is : unbiased k ≡ start .args .n
   offset-is = crossed (start .args .n) k (start .fits .n) (b .biased .ensures)
 
   -- a date past the years is refused
-  past : (z : ℤ) → z ≡ lower k → inYears (moved z .year) ≡ false → DayAnswer.Refused OutOfRange ≡ dayAnswer (start .args .c) (moved (start .args .n))
+  past : (z : ℤ) → z ≡ unbiased k → inYears (moved z .year) ≡ false → DayAnswer.Refused OutOfRange ≡ dayAnswer (start .args .c) (moved (start .args .n))
   past z e h = year-out (start .args .c) (moved z) h ∙ ap (λ (u : ℤ). dayAnswer (start .args .c) (moved u)) (e ∙ offset-is)
 
 -- the month that is reached
@@ -59,7 +59,7 @@ module _ (m : tie.After-month-after) where
   abbrev steps : ℕ
   steps = k at - 9223372036854535808
 
-  steps-is : subℕ steps 240000 ≡ lower (k at)
+  steps-is : subℕ steps 240000 ≡ unbiased (k at)
   steps-is = raised-is (k at) (near .before .if1 .left)
 
   reached : m .month-after .result + 240000 * monthsOf (s .args .part) ≡ count at + 2880000 + steps * monthsOf (s .args .part)
@@ -97,7 +97,7 @@ returns : tie.Need-returns
 returns c =
     let b = c .before in
     let s = start b in
-    past b (lower (k b)) refl (year-before (s .args .c) (s .args .x) (s .args .y) (s .pre) (s .args .part) (k b) 9223372036854775808 (omega (arith, far-below (s .args .part) (count b) (k b) (small b) (c .if1 .taken))))
+    past b (unbiased (k b)) refl (year-before (s .args .c) (s .args .x) (s .args .y) (s .pre) (s .args .part) (k b) 9223372036854775808 (omega (arith, far-below (s .args .part) (count b) (k b) (small b) (c .if1 .taken))))
 
 add-if2 : tie.Need-add-if2
 add-if2 c = search needs
@@ -106,7 +106,7 @@ returns-2 : tie.Need-returns-2
 returns-2 c =
     let b = c .before .before in
     let s = start b in
-    past b (lower (k b)) refl (year-past (s .args .c) (s .args .x) (s .args .y) (s .pre) (s .args .part) (k b) 9223372036854775808 (far-above (s .args .part) (count b) (k b) (c .if2 .taken)))
+    past b (unbiased (k b)) refl (year-past (s .args .c) (s .args .x) (s .args .y) (s .pre) (s .args .part) (k b) 9223372036854775808 (far-above (s .args .part) (count b) (k b) (c .if2 .taken)))
 
 month-count-requires : tie.Need-month-count-requires
 month-count-requires c κs = let s = start (c .before .before) in month-inside (s .args .c) (s .args .x) (s .args .y) (s .pre)

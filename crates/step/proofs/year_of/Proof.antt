@@ -5,7 +5,7 @@ use lib.Dec.{leb}
 use mir.Syntax.{w64}
 use mir.Val.{SFits}
 use borrow.Author.Tests.{leb-true}
-use Rattle.signed.specs.Bias.{lower}
+use Rattle.signed.specs.Bias.{unbiased}
 use Rattle.signed.proofs.Machine.{crossed}
 use Rattle.signed.proofs.Tests.{and-parts}
 use Rattle.calendar.specs.Calendar.{inYears}
@@ -21,11 +21,11 @@ module _ (b : tie.After-biased) where
   abbrev start : tie.Start
   start = b .before .before .before
 
-  year-is : lower (b .biased .result) ≡ start .args .x .year
+  year-is : unbiased (b .biased .result) ≡ start .args .x .year
   year-is = let f : SFits w64 (start .args .x .year) = search needs in crossed (start .args .x .year) (b .biased .result) f (b .biased .ensures)
 
-told : (n : tie.After-year-count) (r : YearCount) → n .year-count .result ≡ r → Counted (n .before .before .before .has-year-zero .result) (lower (n .before .biased .result)) r
-told n r e = subst (Counted (n .before .before .before .has-year-zero .result) (lower (n .before .biased .result))) e (n .year-count .ensures)
+told : (n : tie.After-year-count) (r : YearCount) → n .year-count .result ≡ r → Counted (n .before .before .before .has-year-zero .result) (unbiased (n .before .biased .result)) r
+told n r e = subst (Counted (n .before .before .before .has-year-zero .result) (unbiased (n .before .biased .result))) e (n .year-count .ensures)
 
 has-year-zero-requires : tie.Need-has-year-zero-requires
 has-year-zero-requires c κs = search needs

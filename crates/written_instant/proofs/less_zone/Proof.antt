@@ -9,9 +9,10 @@ use mir.Syntax.{w64}
 use lib.IntN.{_-ℤ_}
 use Rattle.instant.specs.declared.InstantAnswer.{InstantAnswer}
 use Rattle.instant.proofs.Range.{near}
-use Rattle.signed.specs.Bias.{lower}
+use Rattle.signed.specs.Bias.{unbiased}
 use Rattle.signed.proofs.Machine.{crossed}
-use Rattle.written_instant.specs.Instants.{signedOf, zoneLength}
+use Rattle.signed.specs.Sign.{withSign}
+use Rattle.written_instant.specs.Instants.{zoneLength}
 use Rattle.written_instant.proofs.Laws.{taken-off, added, bad-hours, bad-minutes, zone-off, zone-zero}
 use Rattle.written_instant.proofs.less_zone.Statement.{statement}
 use Rattle.written_instant.proofs.less_zone.Tie as tie
@@ -45,8 +46,8 @@ returns-3 c =
     ap InstantAnswer.Is (toZ-ofZ w64 (st .args .t) (st .fits .t))
     ∙ zone-zero (st .args .c) (st .args .z) (st .args .t) (e .if1 .left) (f .if2 .left) (st .pre) (c .if3 .taken)
 
--- the instant as a number that is raised by 2^63, which is far from both ends of 64 bits
-raised : (b : tie.After-biased) → lower (b .biased .result) ≡ b .before .before .before .before .before .before .before .before .args .t
+-- the instant as a number with its bias of 2^63, which is far from both ends of 64 bits
+raised : (b : tie.After-biased) → unbiased (b .biased .result) ≡ b .before .before .before .before .before .before .before .before .args .t
 raised b = let st = b .before .before .before .before .before .before .before .before in crossed (st .args .t) (b .biased .result) (st .fits .t) (b .biased .ensures)
 
 close : (b : tie.After-biased) → (8646911284551352320 ≤ b .biased .result) × (b .biased .result < 9799832789158199296)
@@ -73,7 +74,7 @@ returns-4 c =
     let a = e .before .before .args in
     c .ranged-instant .ensures
     ∙ zone-off (a .c) (a .z) (a .t) (e .if1 .left) (f .if2 .left) _
-    (toZ-ofZ w64 (u .unbiased .result) (record { sfits = u .unbiased .ok }) ∙ (u .unbiased .ensures ∙ (added (a .t) (b .biased .result) (zoneLength (a .z)) (raised b) ∙ ap (λ (s : Bool). a .t -ℤ signedOf s (zoneLength (a .z))) (sym (u .before .if4 .taken)))))
+    (toZ-ofZ w64 (u .unbiased .result) (record { sfits = u .unbiased .ok }) ∙ (u .unbiased .ensures ∙ (added (a .t) (b .biased .result) (zoneLength (a .z)) (raised b) ∙ ap (λ (s : Bool). a .t -ℤ withSign s (zoneLength (a .z))) (sym (u .before .if4 .taken)))))
 
 sub-unbiased : tie.Need-sub-unbiased
 sub-unbiased c = omega (arith, close (c .before) .0)
@@ -93,7 +94,7 @@ returns-5 c =
     let a = e .before .before .args in
     c .ranged-instant2 .ensures
     ∙ zone-off (a .c) (a .z) (a .t) (e .if1 .left) (f .if2 .left) _
-    (toZ-ofZ w64 (u .unbiased2 .result) (record { sfits = u .unbiased2 .ok }) ∙ (u .unbiased2 .ensures ∙ (taken-off (a .t) (b .biased .result) (zoneLength (a .z)) (raised b) (omega (arith, close b .0)) ∙ ap (λ (s : Bool). a .t -ℤ signedOf s (zoneLength (a .z))) (sym (u .before .if4 .left)))))
+    (toZ-ofZ w64 (u .unbiased2 .result) (record { sfits = u .unbiased2 .ok }) ∙ (u .unbiased2 .ensures ∙ (taken-off (a .t) (b .biased .result) (zoneLength (a .z)) (raised b) (omega (arith, close b .0)) ∙ ap (λ (s : Bool). a .t -ℤ withSign s (zoneLength (a .z))) (sym (u .before .if4 .left)))))
 
 pub less-zone-spec : {M : Type 1} → statement M
 less-zone-spec =

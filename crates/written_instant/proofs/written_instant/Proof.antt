@@ -5,12 +5,6 @@ use mir.ValLaws.{toZ-ofZ}
 use mir.Syntax.{w64}
 use mir.Val.{toZ, ofZ}
 use lib.IntN.{ℤ}
-use mir.ValLaws.{toZ-ofZ}
-use mir.Syntax.{w64}
-use lib.IntN.{ℤ}
-use mir.ValLaws.{toZ-ofZ}
-use mir.Syntax.{w64}
-use lib.IntN.{ℤ}
 use Rattle.instant.specs.Instant.{inRange, instantAnswer}
 use Rattle.instant.specs.declared.InstantAnswer.{InstantAnswer}
 use Rattle.written_instant.specs.Instants.{localFields, lessZone, writtenInstant}
@@ -23,10 +17,10 @@ answer : (i : tie.After-instant-of) → i .instant-of .result ≡ instantAnswer 
 answer i =
     let s = i .before in
     let a = s .before .before .before .args in
-    i .instant-of .ensures ∙ ap (λ (y : ℤ). instantAnswer (a .c) (withYear y (a .w))) (toZ-ofZ w64 (s .signed-of .result) (record { sfits = s .signed-of .ok }) ∙ s .signed-of .ensures)
+    i .instant-of .ensures ∙ ap (λ (y : ℤ). instantAnswer (a .c) (withYear y (a .w))) (toZ-ofZ w64 (s .signed-size .result) (record { sfits = s .signed-size .ok }) ∙ s .signed-size .ensures)
 
-signed-of-requires : tie.Need-signed-of-requires
-signed-of-requires c κs = search needs
+signed-size-requires : tie.Need-signed-size-requires
+signed-size-requires c κs = search needs
 
 instant-of-requires : tie.Need-instant-of-requires
 instant-of-requires c κs = search needs
@@ -65,7 +59,7 @@ pub written-instant-spec : {M : Type 1} → statement M
 written-instant-spec =
     tie.close
     (tie.spec
-    signed-of-requires
+    signed-size-requires
     instant-of-requires
     enum-known-r
     returns

@@ -8,7 +8,7 @@ use borrow.Author.Needs.{needs}
 use Rattle.double.specs.declared.Pattern.{Pattern}
 use Rattle.double.specs.declared.whole.Size.{Size}
 use Rattle.double.specs.declared.whole.Size.the-variants.{Of, Fraction, Large}
-use Rattle.double.specs.Nearest.{withSign}
+use Rattle.signed.specs.Sign.{withSign}
 use Rattle.double.specs.Whole.{in64, wholeOf}
 use Rattle.double.specs.Fields.{WholeSize}
 use Rattle.double.proofs.Bits.{fieldOf, digitsOf, no-nan, given-field, given-finite, given-short}

@@ -7,9 +7,10 @@ use mir.Syntax.{w64}
 use mir.ValLaws.{toZ-pos, toZ-ofZ}
 use borrow.Author.Needs.{needs}
 use Rattle.double.specs.declared.whole.Whole.the-variants.{Is}
-use Rattle.double.specs.Nearest.{withSign}
+use Rattle.signed.specs.Sign.{withSign}
 use Rattle.double.specs.Whole.{in64}
-use Rattle.double.proofs.WholeSize.{in64-yes, in64-no, negated, negated-yes, negated-no}
+use Rattle.signed.proofs.Signs.{signed-minus}
+use Rattle.double.proofs.WholeSize.{in64-yes, in64-no, negated-yes, negated-no}
 use Rattle.double.proofs.whole.with_sign.Statement.{statement}
 use Rattle.double.proofs.whole.with_sign.Tie as tie
 
@@ -25,7 +26,7 @@ cast-t12 c = search needs
 returns : tie.Need-returns
 returns c =
     let a = c .before .before .before in
-    ap Is (toZ-ofZ w64 (c .unbiased .result) (record { sfits = c .unbiased .ok }) ∙ c .unbiased .ensures ∙ negated (a .args .n) (c .before .if2 .taken))
+    ap Is (toZ-ofZ w64 (c .unbiased .result) (record { sfits = c .unbiased .ok }) ∙ c .unbiased .ensures ∙ signed-minus (a .args .n) (c .before .if2 .taken))
     ∙ negated-yes (a .args .n) (c .before .if2 .taken)
     ∙ at-sign (a .args .n) (c .before .before .if1 .taken)
 
