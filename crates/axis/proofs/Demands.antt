@@ -101,7 +101,6 @@ module _ (c : Calendar) (p : Period) (R : ℤ) (good : inRange c R ≡ true) (s 
   write t = cond (inRange c t) (writeBy s c p R t) (OffsetAnswer.Refused OutOfRange)
 
   written : (t n : ℤ) → write t ≡ OffsetAnswer.Is n → (inRange c t ≡ true) × (writeBy s c p R t ≡ OffsetAnswer.Is n)
-
   written t n = go (inRange c t)
     where
       go : (q : Bool) → cond q (writeBy s c p R t) (OffsetAnswer.Refused OutOfRange) ≡ OffsetAnswer.Is n → (q ≡ true) × (writeBy s c p R t ≡ OffsetAnswer.Is n)
@@ -109,11 +108,9 @@ module _ (c : Calendar) (p : Period) (R : ℤ) (good : inRange c R ≡ true) (s 
       go false h = absurd (let k : _≡_ {A = ℕ} 0 1 = cc in omega arith)
 
   inside-writes : (t : ℤ) → inRange c t ≡ true → write t ≡ writeBy s c p R t
-
   inside-writes t h = rw h
 
   pub by-writing : InstantWriting c (readBy s c p R) write
-
   by-writing =
       record {
         written-reads = λ t n h. let w = written t n h in b .written-reads t n (w .0) (w .1);

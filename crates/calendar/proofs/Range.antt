@@ -9,9 +9,9 @@ use lib.IntN.{ℤ, pos, negsuc, subℕ}
 use lib.Signed.{leZ}
 use borrow.Author.Tests.{le-leb, lt-leb, leb-true, leb-false}
 use Rattle.signed.specs.Bias.{lift}
-use Rattle.signed.proofs.Tests.{and-parts, left-out, right-out, to-false, test-is}
+use Rattle.signed.proofs.Tests.{and-parts, left-out, to-false, test-is}
 use Rattle.signed.proofs.Order.{le-trans}
-use Rattle.signed.proofs.Differences.{sub-low, sub-high, sub-le, lift-is, above-least, same-diff}
+use Rattle.signed.proofs.Differences.{sub-le, lift-is, above-least, same-diff}
 use Rattle.calendar.specs.Calendar.{CalendarRow, dateBy, dateOf, inYears, rowOf}
 use Rattle.calendar.specs.Closed.{yearStart, yearAt, count, countedRow, cutoverDay, lag, rowEpoch, rowStart, rowEnd, epochDay, firstDay, endDay}
 use Rattle.calendar.specs.declared.Calendar.{Calendar}
@@ -195,20 +195,7 @@ inside-of c z h =
     let high : leb n (endDay c - 1) ≡ true = sym (sub-le n (endDay c - 1) b) ∙ (ap (λ (y : ℤ). leZ y (highDay c)) is ∙ w .1) in
     record { number = n; is = is; from = leb-true (firstDay c) n low; to = omega (arith, small c, leb-true n (endDay c - 1) high) }
 
--- day numbers far from 1970
-pub far-low : (c : Calendar) (n : ℕ) → 5000000 ≤ n → inYears (dateOf c (negsuc n) .year) ≡ false
-far-low c n h =
-    range c (negsuc n)
-    ∙ left-out (leZ (lowDay c) (negsuc n)) (leZ (negsuc n) (highDay c))
-    (ap (λ (z : ℤ). leZ z (negsuc n)) (sub-low (firstDay c) (epochDay c) (omega (arith, small c))) ∙ lt-leb n (epochDay c - suc (firstDay c)) (omega (arith, small c)))
-
-pub far-high : (c : Calendar) (n : ℕ) → 5000000 ≤ n → inYears (dateOf c (pos n) .year) ≡ false
-far-high c n h =
-    range c (pos n)
-    ∙ right-out (leZ (lowDay c) (pos n)) (leZ (pos n) (highDay c))
-    (ap (leZ (pos n)) (sub-high (endDay c - 1) (epochDay c) (omega (arith, small c))) ∙ lt-leb n (endDay c - 1 - epochDay c) (omega (arith, small c)))
-
--- and those that are not: n - 5000000 for some n below ten million
+-- a day number of the range is n - 5000000 for some n below ten million
 pub record Near (z : ℤ) : Type 0 where
   pub number : ℕ
   pub is : subℕ number 5000000 ≡ z

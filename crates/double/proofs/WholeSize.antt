@@ -15,8 +15,6 @@ use lib.Ieee.Nearest.{div-same}
 use borrow.Author.Tests.{lt-ltb, le-ltb, eq-eqb, ne-eqb}
 use Rattle.rounding.proofs.Closest.{eqb-iff}
 use Rattle.refusal.specs.declared.Refusal.the-variants.{OutOfRange, Inexact, NotFinite}
-use Rattle.signed.specs.Bias.{unbiased, bias}
-use Rattle.signed.proofs.Differences.{sub-low, sub-high}
 use Rattle.double.specs.declared.whole.Whole.the-variants.{Is, Refused}
 use Rattle.double.specs.declared.whole.Size.the-variants.{Of, Fraction, Large}
 use Rattle.signed.specs.Sign.{withSign}

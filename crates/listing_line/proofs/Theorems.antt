@@ -12,26 +12,20 @@ use mathlib.Core.List.{List, [], _∷_, _++_, append-assoc}
 use mathlib.Core.Option.{Option, none, some}
 use lib.Dec.{leb, ltb, eqb}
 use lib.IntN.{ℤ}
-use lib.Ieee.{Float, nan, inf, fin}
 use lib.ListN.{length, length-append}
 use borrow.Author.Tests.{leb-true}
 use Rattle.grammar.specs.Reader.{read}
 use Rattle.grammar.specs.Rules.{bytes}
 use Rattle.refusal.specs.Number.{numberOf}
 use Rattle.refusal.specs.declared.Refusal.{Refusal}
-use Rattle.refusal.specs.declared.Refusal.the-variants.{TextTooLong, OutOfRange}
+use Rattle.refusal.specs.declared.Refusal.the-variants.{TextTooLong}
 use Rattle.calendar.specs.declared.Calendar.{Calendar}
-use Rattle.axis_types.specs.declared.Period.{Period}
-use Rattle.axis_types.specs.declared.Mode.{Mode}
 use Rattle.instant.specs.Instant.{inRange, fieldsAnswer}
 use Rattle.instant.specs.declared.FieldsAnswer.{FieldsAnswer}
 use Rattle.instant.proofs.Theorems.{fields-in}
-use Rattle.double.specs.Whole.{wholeOf}
 use Rattle.axis_types.specs.declared.Reading.{Reading}
-use Rattle.double.specs.declared.whole.Whole.{Whole}
-use Rattle.fixed_axis.specs.Fixed.{readingAt, readFloat, readDouble}
 use Rattle.axis_types.specs.declared.Axis.{Axis}
-use Rattle.axis.specs.Axis.{stepOf, readStep, asWhole, doubleAsWhole, doubleIn, readWholeOn, readDoubleOn, readOffset}
+use Rattle.axis.specs.Axis.{readOffset}
 use Rattle.axis_types.specs.declared.Offset.{Offset}
 use Rattle.axis.proofs.Demands.{read-inside}
 use Rattle.axis_text.specs.Units.{readUnits}

@@ -1,6 +1,6 @@
 -- Laws of tests: how a Bool is settled, and what a joined test says of its parts.
 use mathlib.Core.Path.{_≡_, refl, sym}
-use mathlib.Core.Bool.{Bool, true, false, _&&_, _||_, and-false, false≢true}
+use mathlib.Core.Bool.{Bool, true, false, _&&_, and-false, false≢true}
 use Prim.Native.Nat.{ℕ}
 use lib.Dec.{eqb}
 use borrow.Author.Tests.{eqb-true, eqb-false, eq-eqb, ne-eqb}
@@ -30,6 +30,3 @@ left-out a b p = rw p
 
 pub right-out : (a b : Bool) → b ≡ false → (a && b) ≡ false
 right-out a b p = rw (p, and-false a)
-
-pub or-no : (a b : Bool) → a ≡ false → b ≡ false → (a || b) ≡ false
-or-no a b p q = rw (p, q)

@@ -1,9 +1,9 @@
 -- The instant of a date as it is written: document 01, "The units text" and "Numbers returned". Date and time are local, and the instant
 -- is the local time less the zone. 4 tests what is written, and 5 the instant after the zone.
-use mathlib.Core.Bool.{Bool, true, false, _&&_, cond}
+use mathlib.Core.Bool.{Bool, _&&_, cond}
 use Prim.Native.Nat.{ℕ, _+_, _*_}
 use lib.Dec.{ltb}
-use lib.IntN.{ℤ, pos, negℤ, _-ℤ_}
+use lib.IntN.{ℤ, _-ℤ_}
 use Rattle.signed.specs.Sign.{withSign}
 use Rattle.refusal.specs.declared.Refusal.the-variants.{NoSuchDate, OutOfRange}
 use Rattle.calendar.specs.declared.Calendar.{Calendar}

@@ -15,9 +15,6 @@ tested r =
     let f : SFits w64 (a .reference) = search needs in
     r .in-range .ensures ∙ ap (inRange (a .calendar)) (toZ-ofZ w64 (a .reference) f)
 
-in-range-requires : tie.Need-in-range-requires
-in-range-requires c κs = search needs
-
 returns : tie.Need-returns
 returns c = good-in (c .before .before .before .args .axis) (sym (tested (c .before)) ∙ c .if1 .taken)
 
@@ -25,4 +22,9 @@ returns-2 : tie.Need-returns-2
 returns-2 c = past-out (c .before .before .before .args .axis) (sym (tested (c .before)) ∙ c .if1 .left)
 
 pub check-axis-spec : {M : Type 1} → statement M
-check-axis-spec = tie.close (tie.spec in-range-requires returns returns-2)
+check-axis-spec =
+    tie.close
+    (tie.spec
+    (λ c κs. search needs)
+    returns
+    returns-2)

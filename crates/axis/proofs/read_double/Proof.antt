@@ -12,17 +12,8 @@ settled : (k : tie.After-check-axis) (a : AxisCheck) → k .check-axis .result �
 unfolding readDoubleOn
 settled k a e = ap (λ (a : AxisCheck). onGood a Reading.Refused (doubleOn (k .before .args .axis) (k .before .args .x))) (sym e ∙ k .check-axis .ensures)
 
-check-axis-requires : tie.Need-check-axis-requires
-check-axis-requires c κs = search needs
-
-enum-known-r : tie.Need-enum-known-r
-enum-known-r c = search needs
-
 returns : tie.Need-returns
 returns c = settled (c .before .before .before) _ (c .before .r .given .1)
-
-enum-told : tie.Need-enum-told
-enum-told c = search needs
 
 read-double-on-requires : tie.Need-read-double-on-requires
 read-double-on-requires c κs = let k = c .before .before in in-good (k .before .args .axis) (sym (c .enum-told .given .1) ∙ k .check-axis .ensures)
@@ -35,4 +26,10 @@ returns-2 c =
 pub read-double-spec : {M : Type 1} → statement M
 read-double-spec =
     tie.close
-    (tie.spec check-axis-requires enum-known-r returns enum-told read-double-on-requires returns-2)
+    (tie.spec
+    (λ c κs. search needs)
+    (λ c. search needs)
+    returns
+    (λ c. search needs)
+    read-double-on-requires
+    returns-2)

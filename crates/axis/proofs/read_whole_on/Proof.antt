@@ -27,26 +27,11 @@ module _ (s : tie.After-step-on) where
   by : (k : Step) → s .step-on .result ≡ k → readBy k (axis .calendar) (axis .period) (axis .reference) (s .before .args .n) ≡ wholeOn axis (s .before .args .n)
   by k e = ap (λ (k : Step). readBy k (axis .calendar) (axis .period) (axis .reference) (s .before .args .n)) (sym e ∙ s .step-on .ensures)
 
-step-on-requires : tie.Need-step-on-requires
-step-on-requires c κs = search needs
-
-enum-told : tie.Need-enum-told
-enum-told c = search needs
-
-read-whole-requires : tie.Need-read-whole-requires
-read-whole-requires c κs = search needs
-
 returns : tie.Need-returns
 returns c =
     let k = c .before .before in
     let s = k .before .before in
     c .read-whole .ensures ∙ ((λ i. readWhole (axis s .calendar) (axis s .period) (reference-is s i) (given-is s i)) ∙ by s Step.Time (k .enum-told .given .1))
-
-enum-known-part : tie.Need-enum-known-part
-enum-known-part c = search needs
-
-read-whole-requires-2 : tie.Need-read-whole-requires-2
-read-whole-requires-2 c κs = search needs
 
 returns-2 : tie.Need-returns-2
 returns-2 c =
@@ -58,10 +43,10 @@ pub read-whole-on-spec : {M : Type 1} → statement M
 read-whole-on-spec =
     tie.close
     (tie.spec
-    step-on-requires
-    enum-told
-    read-whole-requires
+    (λ c κs. search needs)
+    (λ c. search needs)
+    (λ c κs. search needs)
     returns
-    enum-known-part
-    read-whole-requires-2
+    (λ c. search needs)
+    (λ c κs. search needs)
     returns-2)

@@ -33,40 +33,21 @@ told i a e =
     let k = i .before .before .before in
     ap (λ (a : InstantAnswer). ofInstant a (λ (t : ℤ). offsetOn (axis k) t)) (sym e ∙ i .instant-of .ensures) ∙ settled k AxisCheck.Good (i .before .enum-told .given .1)
 
-check-axis-requires : tie.Need-check-axis-requires
-check-axis-requires c κs = search needs
-
-enum-known-r : tie.Need-enum-known-r
-enum-known-r c = search needs
-
 returns : tie.Need-returns
 returns c = settled (c .before .before .before) _ (c .before .r .given .1)
 
-enum-told : tie.Need-enum-told
-enum-told c = search needs
-
-instant-of-requires : tie.Need-instant-of-requires
-instant-of-requires c κs = search needs
-
-enum-known-r-2 : tie.Need-enum-known-r-2
-enum-known-r-2 c = search needs
-
 returns-2 : tie.Need-returns-2
 returns-2 c = told (c .before .before .before) _ (c .before .r2 .given .1)
-
-enum-known-t : tie.Need-enum-known-t
-enum-known-t c = search needs
 
 write-on-requires : tie.Need-write-on-requires
 write-on-requires c κs =
     let n = c .before in
     let i = n .before .before in
     let k = i .before .before .before in
-    let z = n .t .given .0 .0 in
-    (
+    let z = n .t .given .0 .0 in (
       in-good (axis k) (sym (i .before .enum-told .given .1) ∙ k .check-axis .ensures),
       ap (inRange (axis k .calendar)) (toZ-ofZ w64 z (record { sfits = c .known-told3 .given .0 .1 }))
-      ∙ shown (axis k .calendar) z (fields k) (fields-of-instant (axis k .calendar) (fields k) z (sym (i .instant-of .ensures) ∙ n .t .given .1)) .inside,
+          ∙ shown (axis k .calendar) z (fields k) (fields-of-instant (axis k .calendar) (fields k) z (sym (i .instant-of .ensures) ∙ n .t .given .1)) .inside,
     )
 
 returns-3 : tie.Need-returns-3
@@ -80,13 +61,13 @@ pub write-fields-spec : {M : Type 1} → statement M
 write-fields-spec =
     tie.close
     (tie.spec
-    check-axis-requires
-    enum-known-r
+    (λ c κs. search needs)
+    (λ c. search needs)
     returns
-    enum-told
-    instant-of-requires
-    enum-known-r-2
+    (λ c. search needs)
+    (λ c κs. search needs)
+    (λ c. search needs)
     returns-2
-    enum-known-t
+    (λ c. search needs)
     write-on-requires
     returns-3)

@@ -36,20 +36,8 @@ tested r b e =
     let k = r .before .before .before in
     ap (λ (b : Bool). cond b (offsetOn (axis k) (t k)) (OffsetAnswer.Refused OutOfRange)) (sym e ∙ (r .in-range .ensures ∙ ap (inRange (axis k .calendar)) (instant-is k))) ∙ settled k AxisCheck.Good (r .before .enum-told .given .1)
 
-check-axis-requires : tie.Need-check-axis-requires
-check-axis-requires c κs = search needs
-
-enum-known-r : tie.Need-enum-known-r
-enum-known-r c = search needs
-
 returns : tie.Need-returns
 returns c = settled (c .before .before .before) _ (c .before .r .given .1)
-
-enum-told : tie.Need-enum-told
-enum-told c = search needs
-
-in-range-requires : tie.Need-in-range-requires
-in-range-requires c κs = search needs
 
 write-on-requires : tie.Need-write-on-requires
 write-on-requires c κs =
@@ -66,11 +54,11 @@ pub write-instant-spec : {M : Type 1} → statement M
 write-instant-spec =
     tie.close
     (tie.spec
-    check-axis-requires
-    enum-known-r
+    (λ c κs. search needs)
+    (λ c. search needs)
     returns
-    enum-told
-    in-range-requires
+    (λ c. search needs)
+    (λ c κs. search needs)
     write-on-requires
     returns-2
     returns-3)

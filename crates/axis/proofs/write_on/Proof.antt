@@ -27,26 +27,11 @@ module _ (s : tie.After-step-on) where
   by : (k : Step) → s .step-on .result ≡ k → writeBy k (axis .calendar) (axis .period) (axis .reference) (s .before .args .t) ≡ offsetOn axis (s .before .args .t)
   by k e = ap (λ (k : Step). writeBy k (axis .calendar) (axis .period) (axis .reference) (s .before .args .t)) (sym e ∙ s .step-on .ensures)
 
-step-on-requires : tie.Need-step-on-requires
-step-on-requires c κs = search needs
-
-enum-told : tie.Need-enum-told
-enum-told c = search needs
-
-write-instant-requires : tie.Need-write-instant-requires
-write-instant-requires c κs = search needs
-
 returns : tie.Need-returns
 returns c =
     let k = c .before .before in
     let s = k .before .before in
     c .write-instant .ensures ∙ ((λ i. writeInstant (axis s .period) (reference-is s i) (given-is s i)) ∙ by s Step.Time (k .enum-told .given .1))
-
-enum-known-part : tie.Need-enum-known-part
-enum-known-part c = search needs
-
-write-instant-requires-2 : tie.Need-write-instant-requires-2
-write-instant-requires-2 c κs = search needs
 
 returns-2 : tie.Need-returns-2
 returns-2 c =
@@ -58,10 +43,10 @@ pub write-on-spec : {M : Type 1} → statement M
 write-on-spec =
     tie.close
     (tie.spec
-    step-on-requires
-    enum-told
-    write-instant-requires
+    (λ c κs. search needs)
+    (λ c. search needs)
+    (λ c κs. search needs)
     returns
-    enum-known-part
-    write-instant-requires-2
+    (λ c. search needs)
+    (λ c κs. search needs)
     returns-2)

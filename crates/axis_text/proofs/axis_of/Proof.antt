@@ -8,19 +8,10 @@ use Rattle.axis_text.specs.Units.{axisAt}
 use Rattle.axis_text.proofs.axis_of.Statement.{statement}
 use Rattle.axis_text.proofs.axis_of.Tie as tie
 
-written-instant-requires : tie.Need-written-instant-requires
-written-instant-requires c κs = search needs
-
-enum-known-r : tie.Need-enum-known-r
-enum-known-r c = search needs
-
 returns : tie.Need-returns
 returns c =
     let t = c .before .before .before in
     ap (axisAt _ (t .before .args .u)) (sym (c .before .r .given .1) ∙ t .written-instant .ensures)
-
-enum-known-reference : tie.Need-enum-known-reference
-enum-known-reference c = search needs
 
 returns-2 : tie.Need-returns-2
 returns-2 c =
@@ -30,4 +21,9 @@ returns-2 c =
 pub axis-of-spec : {M : Type 1} → statement M
 axis-of-spec =
     tie.close
-    (tie.spec written-instant-requires enum-known-r returns enum-known-reference returns-2)
+    (tie.spec
+    (λ c κs. search needs)
+    (λ c. search needs)
+    returns
+    (λ c. search needs)
+    returns-2)

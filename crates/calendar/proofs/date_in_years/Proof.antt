@@ -13,9 +13,6 @@ use Rattle.calendar.proofs.date_in_years.Tie as tie
 inside : (c : tie.After-origin) → (c .origin .result ≤ c .before .args .k) × (c .before .args .k - c .origin .result < endDay (c .before .args .c))
 inside c = years-inside (c .before .args .c) (c .before .args .k) (c .origin .result) (c .origin .ensures) (c .before .pre)
 
-origin-requires : tie.Need-origin-requires
-origin-requires c κs = search needs
-
 sub-date-at : tie.Need-sub-date-at
 sub-date-at c = inside c .0
 
@@ -28,4 +25,10 @@ returns c =
     c .date-at .ensures ∙ ap (dateOf (o .before .args .c)) (place-is (o .before .args .c) (o .before .args .k) (o .origin .result) (o .origin .ensures) (inside o .0))
 
 pub date-in-years-spec : {M : Type 1} → statement M
-date-in-years-spec = tie.close (tie.spec origin-requires sub-date-at date-at-requires returns)
+date-in-years-spec =
+    tie.close
+    (tie.spec
+    (λ c κs. search needs)
+    sub-date-at
+    date-at-requires
+    returns)

@@ -7,9 +7,6 @@ use borrow.Author.Needs.{needs}
 use Rattle.calendar.proofs.date_of_biased_day.Statement.{statement}
 use Rattle.calendar.proofs.date_of_biased_day.Tie as tie
 
-day-in-years-requires : tie.Need-day-in-years-requires
-day-in-years-requires c κs = search needs
-
 date-in-years-requires : tie.Need-date-in-years-requires
 date-in-years-requires c κs = sym (c .before .day-in-years .ensures) ∙ c .if1 .taken
 
@@ -26,4 +23,9 @@ returns-2 c =
 
 pub date-of-biased-day-spec : {M : Type 1} → statement M
 date-of-biased-day-spec =
-    tie.close (tie.spec day-in-years-requires date-in-years-requires returns returns-2)
+    tie.close
+    (tie.spec
+    (λ c κs. search needs)
+    date-in-years-requires
+    returns
+    returns-2)

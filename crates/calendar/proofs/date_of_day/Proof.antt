@@ -9,12 +9,6 @@ use borrow.Author.Needs.{needs}
 use Rattle.calendar.proofs.date_of_day.Statement.{statement}
 use Rattle.calendar.proofs.date_of_day.Tie as tie
 
-biased-requires : tie.Need-biased-requires
-biased-requires c κs = search needs
-
-day-in-years-requires : tie.Need-day-in-years-requires
-day-in-years-requires c κs = search needs
-
 date-in-years-requires : tie.Need-date-in-years-requires
 date-in-years-requires c κs = sym (c .before .day-in-years .ensures) ∙ c .if1 .taken
 
@@ -38,4 +32,9 @@ returns-2 c =
 pub date-of-day-spec : {M : Type 1} → statement M
 date-of-day-spec =
     tie.close
-    (tie.spec biased-requires day-in-years-requires date-in-years-requires returns returns-2)
+    (tie.spec
+    (λ c κs. search needs)
+    (λ c κs. search needs)
+    date-in-years-requires
+    returns
+    returns-2)

@@ -8,22 +8,13 @@ use borrow.Author.Needs.{needs}
 use Rattle.calendar.proofs.day_in_years.Statement.{statement}
 use Rattle.calendar.proofs.day_in_years.Tie as tie
 
-origin-requires : tie.Need-origin-requires
-origin-requires c κs = search needs
-
 returns : tie.Need-returns
 returns c = let o = c .before .origin in sym (years-below (c .before .before .args .c) (c .before .before .args .k) (o .result) (o .ensures) (omega (arith, c .if1 .taken)))
-
-first-day-requires : tie.Need-first-day-requires
-first-day-requires c κs = search needs
 
 returns-2 : tie.Need-returns-2
 returns-2 c =
     let o = c .before .before .before in
     sym (years-below (o .before .args .c) (o .before .args .k) (o .origin .result) (o .origin .ensures) (omega (arith, c .before .before .if1 .left, c .if2 .taken, c .before .first-day .ensures)))
-
-end-day-requires : tie.Need-end-day-requires
-end-day-requires c κs = search needs
 
 returns-3 : tie.Need-returns-3
 returns-3 c =
@@ -35,4 +26,10 @@ returns-3 c =
 pub day-in-years-spec : {M : Type 1} → statement M
 day-in-years-spec =
     tie.close
-    (tie.spec origin-requires returns first-day-requires returns-2 end-day-requires returns-3)
+    (tie.spec
+    (λ c κs. search needs)
+    returns
+    (λ c κs. search needs)
+    returns-2
+    (λ c κs. search needs)
+    returns-3)

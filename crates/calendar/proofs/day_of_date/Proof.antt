@@ -60,35 +60,17 @@ count-small c =
     let w = and-parts (leb (firstYear z) y) (leb y 19999) (sym (year-in z y) ∙ (ap inYears (count-is c) ∙ inside e)) in
     omega (arith, leb-true y 19999 (w .1))
 
-biased-requires : tie.Need-biased-requires
-biased-requires c κs = search needs
-
-sub-if1 : tie.Need-sub-if1
-sub-if1 c = search needs
-
 returns : tie.Need-returns
 returns c =
     let b = c .before in
     year-out (b .before .before .args .c) (b .before .before .args .x)
     (range b ∙ left-out (leb 9223372036854765809 (b .biased .result)) (leb (b .biased .result) 9223372036854785807) (lt-leb 9223372036854765809 (b .biased .result) (c .if1 .taken)))
 
-add-if2 : tie.Need-add-if2
-add-if2 c = search needs
-
 returns-2 : tie.Need-returns-2
 returns-2 c =
     let b = c .before .before in
     year-out (b .before .before .args .c) (b .before .before .args .x)
     (range b ∙ right-out (leb 9223372036854765809 (b .biased .result)) (leb (b .biased .result) 9223372036854785807) (lt-leb (b .biased .result) 9223372036854785807 (c .if2 .taken)))
-
-has-year-zero-requires : tie.Need-has-year-zero-requires
-has-year-zero-requires c κs = search needs
-
-year-count-requires : tie.Need-year-count-requires
-year-count-requires c κs = search needs
-
-enum-told : tie.Need-enum-told
-enum-told c = search needs
 
 returns-3 : tie.Need-returns-3
 returns-3 c =
@@ -97,12 +79,6 @@ returns-3 c =
     let s = e .before .before .before .before in
     let told : Counted (n .before .has-year-zero .result) (unbiased (e .before .before .biased .result)) YearCount.Missing = subst (Counted (n .before .has-year-zero .result) (unbiased (e .before .before .biased .result))) (c .enum-told .given .1) (n .year-count .ensures) in
     date-missing (s .args .c) (s .args .x) (inside e) (not-there (s .args .c) (s .args .x) (λ v. true≢false (sym (no-year (s .args .c) (s .args .x .year) (sym (n .before .has-year-zero .ensures) ∙ told .0) (sym (year-is (e .before .before)) ∙ told .1)) ∙ valid-year (s .args .c) (s .args .x) v)))
-
-enum-known-y : tie.Need-enum-known-y
-enum-known-y c = search needs
-
-exists-in-year-requires : tie.Need-exists-in-year-requires
-exists-in-year-requires c κs = search needs
 
 day-in-year-requires : tie.Need-day-in-year-requires
 day-in-year-requires c κs =
@@ -129,17 +105,17 @@ pub day-of-date-spec : {M : Type 1} → statement M
 day-of-date-spec =
     tie.close
     (tie.spec
-    biased-requires
-    sub-if1
+    (λ c κs. search needs)
+    (λ c. search needs)
     returns
-    add-if2
+    (λ c. search needs)
     returns-2
-    has-year-zero-requires
-    year-count-requires
-    enum-told
+    (λ c κs. search needs)
+    (λ c κs. search needs)
+    (λ c. search needs)
     returns-3
-    enum-known-y
-    exists-in-year-requires
+    (λ c. search needs)
+    (λ c κs. search needs)
     day-in-year-requires
     returns-4
     returns-5)

@@ -5,15 +5,14 @@ use borrow.Author.Needs.{needs}
 use Rattle.calendar.proofs.epoch_day.Statement.{statement}
 use Rattle.calendar.proofs.epoch_day.Tie as tie
 
-row-of-requires : tie.Need-row-of-requires
-row-of-requires c κs = search needs
-
-year-start-requires : tie.Need-year-start-requires
-year-start-requires c κs = search needs
-
 returns : tie.Need-returns
 unfolding rowEpoch
 returns c = c .year-start .ensures ∙ ap (λ (k : CountedRow). yearStart (k .late) 11970) (c .before .row-of .ensures)
 
 pub epoch-day-spec : {M : Type 1} → statement M
-epoch-day-spec = tie.close (tie.spec row-of-requires year-start-requires returns)
+epoch-day-spec =
+    tie.close
+    (tie.spec
+    (λ c κs. search needs)
+    (λ c κs. search needs)
+    returns)

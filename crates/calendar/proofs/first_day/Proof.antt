@@ -21,17 +21,8 @@ start c =
 room : (x : Calendar) → lag (counts x) ≤ yearStart (counts x .early) (firstYear (counts x .zero))
 room x = let z = counts x .zero in omega (arith, cutover x .lag-small, first-two z, year-least (counts x .early) (firstYear z))
 
-row-of-requires : tie.Need-row-of-requires
-row-of-requires c κs = search needs
-
-first-year-requires : tie.Need-first-year-requires
-first-year-requires c κs = search needs
-
 year-start-requires : tie.Need-year-start-requires
 year-start-requires c κs = omega (arith, c .first-year .ensures, first-two (c .before .row-of .result .zero))
-
-lag-of-requires : tie.Need-lag-of-requires
-lag-of-requires c κs = search needs
 
 sub-result : tie.Need-sub-result
 sub-result c = omega (arith, start c, room (c .before .before .before .before .args .c), c .lag-of .ensures)
@@ -44,9 +35,9 @@ pub first-day-spec : {M : Type 1} → statement M
 first-day-spec =
     tie.close
     (tie.spec
-    row-of-requires
-    first-year-requires
+    (λ c κs. search needs)
+    (λ c κs. search needs)
     year-start-requires
-    lag-of-requires
+    (λ c κs. search needs)
     sub-result
     returns)

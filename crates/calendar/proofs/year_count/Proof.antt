@@ -9,20 +9,8 @@ use borrow.Author.Needs.{needs}
 use Rattle.calendar.proofs.year_count.Statement.{statement}
 use Rattle.calendar.proofs.year_count.Tie as tie
 
-sub-t4 : tie.Need-sub-t4
-sub-t4 c = search needs
-
-sub-t5 : tie.Need-sub-t5
-sub-t5 c = search needs
-
 returns : tie.Need-returns
 returns c = let k = c .before .args .k in rw (c .if1 .taken) (same-diff (k - 9223372036854765808) 10000 k 9223372036854775808 (omega (arith, c .before .pre)))
-
-sub-t6 : tie.Need-sub-t6
-sub-t6 c = search needs
-
-sub-t7 : tie.Need-sub-t7
-sub-t7 c = search needs
 
 returns-2 : tie.Need-returns-2
 returns-2 c =
@@ -32,12 +20,6 @@ returns-2 c =
 returns-3 : tie.Need-returns-3
 returns-3 c = (c .before .before .if1 .left, ap unbiased (c .if3 .taken))
 
-sub-t8 : tie.Need-sub-t8
-sub-t8 c = search needs
-
-sub-t9 : tie.Need-sub-t9
-sub-t9 c = search needs
-
 returns-4 : tie.Need-returns-4
 returns-4 c =
     let k = c .before .before .before .args .k in
@@ -46,4 +28,14 @@ returns-4 c =
 pub year-count-spec : {M : Type 1} → statement M
 year-count-spec =
     tie.close
-    (tie.spec sub-t4 sub-t5 returns sub-t6 sub-t7 returns-2 returns-3 sub-t8 sub-t9 returns-4)
+    (tie.spec
+    (λ c. search needs)
+    (λ c. search needs)
+    returns
+    (λ c. search needs)
+    (λ c. search needs)
+    returns-2
+    returns-3
+    (λ c. search needs)
+    (λ c. search needs)
+    returns-4)

@@ -31,17 +31,8 @@ module _ (d : tie.After-day-reached) where
   reading : (a : DayAnswer) → d .day-reached .result ≡ a → onDay a (start .args .s .time) ≡ onDay answer (start .args .s .time)
   reading a e = ap (λ (u : DayAnswer). onDay u (start .args .s .time)) (sym e ∙ answer-is)
 
-day-reached-requires : tie.Need-day-reached-requires
-day-reached-requires c κs = search needs
-
-enum-known-r : tie.Need-enum-known-r
-enum-known-r c = search needs
-
 returns : tie.Need-returns
 returns c = reading (c .before .before .before) (DayAnswer.Refused (c .before .r .given .0 .0)) (c .before .r .given .1)
-
-enum-known-day : tie.Need-enum-known-day
-enum-known-day c = search needs
 
 instant-at-requires : tie.Need-instant-at-requires
 instant-at-requires c κs =
@@ -64,9 +55,9 @@ pub read-from-spec : {M : Type 1} → statement M
 read-from-spec =
     tie.close
     (tie.spec
-    day-reached-requires
-    enum-known-r
+    (λ c κs. search needs)
+    (λ c. search needs)
     returns
-    enum-known-day
+    (λ c. search needs)
     instant-at-requires
     returns-2)

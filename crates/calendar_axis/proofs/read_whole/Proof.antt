@@ -14,9 +14,6 @@ use Rattle.calendar_axis.proofs.read_whole.Tie as tie
 started : (b : tie.After-start-of) → let a = b .before .args in StartOf (a .c) (a .reference) (b .start-of .result)
 started b = let a = b .before in subst (λ (R : ℤ). StartOf (a .args .c) R (b .start-of .result)) (toZ-ofZ w64 (a .args .reference) (a .fits .reference)) (b .start-of .ensures)
 
-start-of-requires : tie.Need-start-of-requires
-start-of-requires c κs = search needs
-
 read-from-requires : tie.Need-read-from-requires
 read-from-requires c κs = (started c .year, start-time (c .before .args .c) (c .before .args .reference) (c .start-of .result) (started c))
 
@@ -28,4 +25,9 @@ returns c =
     ∙ (from-start (a .part) (a .c) (a .reference) (b .start-of .result) _ (started b) ∙ ap (readSteps (a .part) (a .c) (a .reference)) (toZ-ofZ w64 (a .n) (b .before .fits .n)))
 
 pub read-whole-spec : {M : Type 1} → statement M
-read-whole-spec = tie.close (tie.spec start-of-requires read-from-requires returns)
+read-whole-spec =
+    tie.close
+    (tie.spec
+    (λ c κs. search needs)
+    read-from-requires
+    returns)

@@ -35,15 +35,6 @@ module _ (d : tie.After-date-of-biased-day) where
   found : (x : Date) → d .date-of-biased-day .result ≡ DateAnswer.Is x → x ≡ date
   found x e = let a = answer in cc
 
-day-and-time-requires : tie.Need-day-and-time-requires
-day-and-time-requires c κs = search needs
-
-date-of-biased-day-requires : tie.Need-date-of-biased-day-requires
-date-of-biased-day-requires c κs = search needs
-
-enum-known-date : tie.Need-enum-known-date
-enum-known-date c = search needs
-
 year-of-requires : tie.Need-year-of-requires
 year-of-requires c κs =
     let d = c .before .before .before in
@@ -55,9 +46,6 @@ returns c =
     let d = a .before .before in
     record { date = found d (a .date .given .0 .0) (a .date .given .1); year = c .year-of .ensures; time = d .before .day-and-time .ensures .1 ∙ ap timeOf (reference-is d) }
 
-enum-told : tie.Need-enum-told
-enum-told c = search needs
-
 returns-2 : tie.Need-returns-2
 returns-2 c =
     let a = answer (c .before .before) in
@@ -65,4 +53,13 @@ returns-2 c =
     absurd (let z : _≡_ {A = ℕ} 0 1 = cc in omega arith)
 
 pub start-of-spec : {M : Type 1} → statement M
-start-of-spec = tie.close (tie.spec day-and-time-requires date-of-biased-day-requires enum-known-date year-of-requires returns enum-told returns-2)
+start-of-spec =
+    tie.close
+    (tie.spec
+    (λ c κs. search needs)
+    (λ c κs. search needs)
+    (λ c. search needs)
+    year-of-requires
+    returns
+    (λ c. search needs)
+    returns-2)

@@ -34,23 +34,8 @@ module _ (b : tie.After-steps-between) where
       (λ i. offsetFrom (sym e i) (sym f i))
       ∙ λ i. offsetFrom ((b .steps-between .ensures ∙ λ j. stepsBetween (start .args .part) (start .args .c) (from .date j) (to .date j)) i) (eqb (from .time i) (to .time i))
 
-start-of-requires : tie.Need-start-of-requires
-start-of-requires c κs = search needs
-
-start-of-requires-2 : tie.Need-start-of-requires-2
-start-of-requires-2 c κs = search needs
-
-steps-between-requires : tie.Need-steps-between-requires
-steps-between-requires c κs = search needs
-
-enum-told : tie.Need-enum-told
-enum-told c = search needs
-
 returns : tie.Need-returns
 returns c = answer (c .before .before) StepAnswer.Nothing _ (c .enum-told .given .1) refl
-
-enum-known-n : tie.Need-enum-known-n
-enum-known-n c = search needs
 
 returns-2 : tie.Need-returns-2
 returns-2 c =
@@ -71,11 +56,11 @@ pub write-instant-spec : {M : Type 1} → statement M
 write-instant-spec =
     tie.close
     (tie.spec
-    start-of-requires
-    start-of-requires-2
-    steps-between-requires
-    enum-told
+    (λ c κs. search needs)
+    (λ c κs. search needs)
+    (λ c κs. search needs)
+    (λ c. search needs)
     returns
-    enum-known-n
+    (λ c. search needs)
     returns-2
     returns-3)

@@ -10,18 +10,18 @@ use Rattle.calendar_name.proofs.calendar_of.Tie as tie
 returns : tie.Need-returns
 returns c = sym (ap calendarNamed (name-empty (c .before .before .args .name .now) (c .if1 .taken)))
 
-long-name-requires : tie.Need-long-name-requires
-long-name-requires c κs = search needs
-
 returns-2 : tie.Need-returns-2
 returns-2 c = c .long-name .ensures ∙ sym (ap calendarNamed (name-listed (c .before .before .before .before .args .name .now) (omega arith)))
-
-short-name-requires : tie.Need-short-name-requires
-short-name-requires c κs = search needs
 
 returns-3 : tie.Need-returns-3
 returns-3 c = c .short-name .ensures ∙ sym (ap calendarNamed (name-listed (c .before .before .before .before .args .name .now) (omega arith)))
 
 pub calendar-of-spec : {M : Type 1} → statement M
 calendar-of-spec =
-    tie.close (tie.spec returns long-name-requires returns-2 short-name-requires returns-3)
+    tie.close
+    (tie.spec
+    returns
+    (λ c κs. search needs)
+    returns-2
+    (λ c κs. search needs)
+    returns-3)

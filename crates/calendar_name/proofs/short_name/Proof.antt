@@ -14,14 +14,8 @@ use Rattle.calendar_name.proofs.Laws.{name-zero, name-packed}
 use Rattle.calendar_name.proofs.short_name.Statement.{statement}
 use Rattle.calendar_name.proofs.short_name.Tie as tie
 
-shared-slice-read-if1 : tie.Need-shared-slice-read-if1
-shared-slice-read-if1 c = search needs
-
 returns : tie.Need-returns
 returns c = sym (ap calendarNamed (name-zero (c .before .before .before .args .name .now) (c .if1 .taken)))
-
-packed-of-requires : tie.Need-packed-of-requires
-packed-of-requires c κs = search needs
 
 -- the table gives the name what it gives the name's number
 number : (c : tie.After-packed-of) → lookup calendarNames (c .before .before .before .before .args .name .now) ≡ byNumber calendarNames (c .packed-of .result)
@@ -66,9 +60,9 @@ pub short-name-spec : {M : Type 1} → statement M
 short-name-spec =
     tie.close
     (tie.spec
-    shared-slice-read-if1
+    (λ c. search needs)
     returns
-    packed-of-requires
+    (λ c κs. search needs)
     returns-2
     returns-3
     returns-4

@@ -6,15 +6,6 @@ use borrow.Author.Needs.{needs}
 use Rattle.codes.proofs.axis_code.Statement.{statement}
 use Rattle.codes.proofs.axis_code.Tie as tie
 
-calendar-code-requires : tie.Need-calendar-code-requires
-calendar-code-requires c κs = search needs
-
-period-code-requires : tie.Need-period-code-requires
-period-code-requires c κs = search needs
-
-mode-code-requires : tie.Need-mode-code-requires
-mode-code-requires c κs = search needs
-
 returns : tie.Need-returns
 returns c =
     let s = c .before .before .before .before in
@@ -23,4 +14,9 @@ returns c =
 
 pub axis-code-spec : {M : Type 1} → statement M
 axis-code-spec =
-    tie.close (tie.spec calendar-code-requires period-code-requires mode-code-requires returns)
+    tie.close
+    (tie.spec
+    (λ c κs. search needs)
+    (λ c κs. search needs)
+    (λ c κs. search needs)
+    returns)

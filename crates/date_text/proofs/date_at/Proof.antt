@@ -20,26 +20,14 @@ yes c = sym (c .before .starts-in .ensures) ∙ c .if1 .taken
 inText : (c : tie.Then1) → c .before .before .before .before .args .at < length (c .before .before .before .before .args .s .now)
 inText c = let a = c .before .before .before .before .args in starts-lt _ (a .s .now) (a .at) (yes c)
 
-slice-aggregate-starts-in : tie.Need-slice-aggregate-starts-in
-slice-aggregate-starts-in c = search needs
-
-starts-in-requires : tie.Need-starts-in-requires
-starts-in-requires c κs = search needs
-
 shared-slice-read-negative : tie.Need-shared-slice-read-negative
 shared-slice-read-negative c = inText (c .before)
 
 add-year-at : tie.Need-add-year-at
 add-year-at c = let h = inText (c .before) in omega arith
 
-year-at-requires : tie.Need-year-at-requires
-year-at-requires c κs = search needs
-
 returns : tie.Need-returns
 returns c = let t = c .before .before in let a = t .before .before .before .before .args in date-signed (a .s .now) (a .at) (yes t) ∙ c .year-at .ensures
-
-year-at-requires-2 : tie.Need-year-at-requires-2
-year-at-requires-2 c κs = search needs
 
 returns-2 : tie.Need-returns-2
 returns-2 c = let t = c .before in let a = t .before .before .before .before .args in date-plain (drop (a .at) (a .s .now)) (sym (t .before .starts-in .ensures) ∙ t .if1 .left) ∙ c .year-at2 .ensures
@@ -48,11 +36,11 @@ pub date-at-spec : {M : Type 1} → statement M
 date-at-spec =
     tie.close
     (tie.spec
-    slice-aggregate-starts-in
-    starts-in-requires
+    (λ c. search needs)
+    (λ c κs. search needs)
     shared-slice-read-negative
     add-year-at
-    year-at-requires
+    (λ c κs. search needs)
     returns
-    year-at-requires-2
+    (λ c κs. search needs)
     returns-2)

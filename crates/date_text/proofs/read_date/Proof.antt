@@ -7,15 +7,6 @@ use Rattle.date_text.specs.DateRule.{dateRule}
 use Rattle.date_text.proofs.read_date.Statement.{statement}
 use Rattle.date_text.proofs.read_date.Tie as tie
 
-date-at-requires : tie.Need-date-at-requires
-date-at-requires c κs = search needs
-
-enum-known-w : tie.Need-enum-known-w
-enum-known-w c = search needs
-
-enum-told : tie.Need-enum-told
-enum-told c = search needs
-
 returns : tie.Need-returns
 returns c = let d = c .before .before in let a = d .before .before .args in sym (ap writtenAnswer (read-no dateRule (a .s .now) (d .date-at .ensures ∙ ap (writtenIn _) (c .enum-told .given .1))))
 
@@ -27,4 +18,11 @@ returns-3 c = let k = c .before .before in let d = k .before .before in let a = 
 
 pub read-date-spec : {M : Type 1} → statement M
 read-date-spec =
-    tie.close (tie.spec date-at-requires enum-known-w enum-told returns returns-2 returns-3)
+    tie.close
+    (tie.spec
+    (λ c κs. search needs)
+    (λ c. search needs)
+    (λ c. search needs)
+    returns
+    returns-2
+    returns-3)

@@ -26,23 +26,8 @@ yes c = sym (c .before .starts-in .ensures) ∙ c .if1 .taken
 inText : (c : tie.Then1) → c .before .before .before .before .args .at < length (c .before .before .before .before .args .s .now)
 inText c = let a = c .before .before .before .before .args in starts-lt _ (a .s .now) (a .at) (yes c)
 
-slice-aggregate-starts-in : tie.Need-slice-aggregate-starts-in
-slice-aggregate-starts-in c = search needs
-
-starts-in-requires : tie.Need-starts-in-requires
-starts-in-requires c κs = search needs
-
 add-number-at : tie.Need-add-number-at
 add-number-at c = let h = inText c in omega arith
-
-number-at-requires : tie.Need-number-at-requires
-number-at-requires c κs = search needs
-
-enum-known-hour : tie.Need-enum-known-hour
-enum-known-hour c = search needs
-
-enum-told : tie.Need-enum-told
-enum-told c = search needs
 
 returns : tie.Need-returns
 returns c =
@@ -50,15 +35,6 @@ returns c =
     let t = n .before in
     let a = t .before .before .before .before .args in
     time-no (a .s .now) (a .at) (yes t) (n .number-at .ensures ∙ ap (numberIn _) (c .enum-told .given .1))
-
-minute-part-requires : tie.Need-minute-part-requires
-minute-part-requires c κs = search needs
-
-enum-known-minute : tie.Need-enum-known-minute
-enum-known-minute c = search needs
-
-enum-told-2 : tie.Need-enum-told-2
-enum-told-2 c = search needs
 
 returns-2 : tie.Need-returns-2
 returns-2 c =
@@ -84,23 +60,11 @@ time z o e =
     let a = t .before .before .before .before .args in
     time-is (a .s .now) (a .at) (yes t) _ _ _ _ _ (n .number-at .ensures ∙ ap (numberIn _) (h .hour .given .1)) (m .minute-part .ensures ∙ ap (minuteIn _) (k .minute .given .1)) (z .zone-part .ensures ∙ ap (zoneIn _) e)
 
-zone-part-requires : tie.Need-zone-part-requires
-zone-part-requires c κs = search needs
-
-enum-known-zone : tie.Need-enum-known-zone
-enum-known-zone c = search needs
-
-enum-told-3 : tie.Need-enum-told-3
-enum-told-3 c = search needs
-
 returns-3 : tie.Need-returns-3
 returns-3 c = time (c .before .before) _ (c .enum-told3 .given .1)
 
 returns-4 : tie.Need-returns-4
 returns-4 c = time (c .before .before .before) _ (c .before .zone .given .1)
-
-midnight-utc-requires : tie.Need-midnight-utc-requires
-midnight-utc-requires c κs = search needs
 
 returns-5 : tie.Need-returns-5
 returns-5 c =
@@ -111,21 +75,21 @@ pub time-part-spec : {M : Type 1} → statement M
 time-part-spec =
     tie.close
     (tie.spec
-    slice-aggregate-starts-in
-    starts-in-requires
+    (λ c. search needs)
+    (λ c κs. search needs)
     add-number-at
-    number-at-requires
-    enum-known-hour
-    enum-told
+    (λ c κs. search needs)
+    (λ c. search needs)
+    (λ c. search needs)
     returns
-    minute-part-requires
-    enum-known-minute
-    enum-told-2
+    (λ c κs. search needs)
+    (λ c. search needs)
+    (λ c. search needs)
     returns-2
-    zone-part-requires
-    enum-known-zone
-    enum-told-3
+    (λ c κs. search needs)
+    (λ c. search needs)
+    (λ c. search needs)
     returns-3
     returns-4
-    midnight-utc-requires
+    (λ c κs. search needs)
     returns-5)

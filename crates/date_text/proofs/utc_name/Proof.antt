@@ -6,15 +6,6 @@ use Rattle.grammar.proofs.Steps.{give-of}
 use Rattle.date_text.proofs.utc_name.Statement.{statement}
 use Rattle.date_text.proofs.utc_name.Tie as tie
 
-word-at-requires : tie.Need-word-at-requires
-word-at-requires c κs = search needs
-
-enum-known-e : tie.Need-enum-known-e
-enum-known-e c = search needs
-
-enum-told : tie.Need-enum-told
-enum-told c = search needs
-
 returns : tie.Need-returns
 returns c = let w = c .before .before in give-of _ _ _ _ (w .word-at .ensures ∙ ap (endIn _) (c .enum-told .given .1))
 
@@ -22,4 +13,11 @@ returns-2 : tie.Need-returns-2
 returns-2 c = let w = c .before .before .before in give-of _ _ _ _ (w .word-at .ensures ∙ ap (endIn _) (c .before .e .given .1))
 
 pub utc-name-spec : {M : Type 1} → statement M
-utc-name-spec = tie.close (tie.spec word-at-requires enum-known-e enum-told returns returns-2)
+utc-name-spec =
+    tie.close
+    (tie.spec
+    (λ c κs. search needs)
+    (λ c. search needs)
+    (λ c. search needs)
+    returns
+    returns-2)

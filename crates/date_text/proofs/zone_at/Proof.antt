@@ -8,20 +8,11 @@ use Rattle.grammar.proofs.Steps.{skip-yes, skip-no}
 use Rattle.date_text.proofs.zone_at.Statement.{statement}
 use Rattle.date_text.proofs.zone_at.Tie as tie
 
-next-in-requires : tie.Need-next-in-requires
-next-in-requires c κs = search needs
-
 add-zone-body : tie.Need-add-zone-body
 add-zone-body c = let a = c .before .before .before .args in let h = starts-lt _ (a .s .now) (a .at) (sym (c .before .next-in .ensures) ∙ c .if1 .taken) in omega arith
 
-zone-body-requires : tie.Need-zone-body-requires
-zone-body-requires c κs = search needs
-
 returns : tie.Need-returns
 returns c = let t = c .before in let a = t .before .before .before .args in skip-yes _ _ _ (a .s .now) (a .at) (sym (t .before .next-in .ensures) ∙ t .if1 .taken) ∙ c .zone-body .ensures
-
-zone-body-requires-2 : tie.Need-zone-body-requires-2
-zone-body-requires-2 c κs = search needs
 
 returns-2 : tie.Need-returns-2
 returns-2 c = let t = c .before in let a = t .before .before .before .args in skip-no _ _ _ (drop (a .at) (a .s .now)) (sym (t .before .next-in .ensures) ∙ t .if1 .left) ∙ c .zone-body2 .ensures
@@ -30,9 +21,9 @@ pub zone-at-spec : {M : Type 1} → statement M
 zone-at-spec =
     tie.close
     (tie.spec
-    next-in-requires
+    (λ c κs. search needs)
     add-zone-body
-    zone-body-requires
+    (λ c κs. search needs)
     returns
-    zone-body-requires-2
+    (λ c κs. search needs)
     returns-2)

@@ -8,25 +8,13 @@ use Rattle.date_text.proofs.Steps.{zone-minutes-colon, zone-minutes-dig
 use Rattle.date_text.proofs.zone_minutes.Statement.{statement}
 use Rattle.date_text.proofs.zone_minutes.Tie as tie
 
-next-in-requires : tie.Need-next-in-requires
-next-in-requires c κs = search needs
-
 add-two-digits : tie.Need-add-two-digits
 add-two-digits c = let a = c .before .before .before .args in let h = starts-lt _ (a .s .now) (a .at) (sym (c .before .next-in .ensures) ∙ c .if1 .taken) in omega arith
-
-two-digits-requires : tie.Need-two-digits-requires
-two-digits-requires c κs = search needs
 
 returns : tie.Need-returns
 returns c =
     let a = c .before .before .before .before .args in
     zone-minutes-colon (a .s .now) (a .at) (sym (c .before .before .next-in .ensures) ∙ c .before .if1 .taken) ∙ c .two-digits .ensures
-
-next-in-requires-2 : tie.Need-next-in-requires-2
-next-in-requires-2 c κs = search needs
-
-two-digits-requires-2 : tie.Need-two-digits-requires-2
-two-digits-requires-2 c κs = search needs
 
 returns-2 : tie.Need-returns-2
 returns-2 c =
@@ -45,11 +33,11 @@ pub zone-minutes-spec : {M : Type 1} → statement M
 zone-minutes-spec =
     tie.close
     (tie.spec
-    next-in-requires
+    (λ c κs. search needs)
     add-two-digits
-    two-digits-requires
+    (λ c κs. search needs)
     returns
-    next-in-requires-2
-    two-digits-requires-2
+    (λ c κs. search needs)
+    (λ c κs. search needs)
     returns-2
     returns-3)

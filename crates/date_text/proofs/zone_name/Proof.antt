@@ -7,12 +7,6 @@ use Rattle.date_text.proofs.Steps.{name-z, name-u, name-g}
 use Rattle.date_text.proofs.zone_name.Statement.{statement}
 use Rattle.date_text.proofs.zone_name.Tie as tie
 
-letter-at-requires : tie.Need-letter-at-requires
-letter-at-requires c κs = search needs
-
-slice-aggregate-utc-name : tie.Need-slice-aggregate-utc-name
-slice-aggregate-utc-name c = search needs
-
 utc-name-requires : tie.Need-utc-name-requires
 unfolding every within inside
 utc-name-requires c κs = refl
@@ -22,12 +16,6 @@ returns c =
     let t = c .before .before in
     let a = t .before .before .before .args in
     name-z (drop (a .at) (a .s .now)) (sym (t .before .letter-at .ensures) ∙ t .if1 .taken) ∙ c .utc-name .ensures
-
-letter-at-requires-2 : tie.Need-letter-at-requires-2
-letter-at-requires-2 c κs = search needs
-
-slice-aggregate-utc-name-2 : tie.Need-slice-aggregate-utc-name-2
-slice-aggregate-utc-name-2 c = search needs
 
 utc-name-requires-2 : tie.Need-utc-name-requires-2
 unfolding every within inside
@@ -39,9 +27,6 @@ returns-2 c =
     let e = t .before .before in
     let a = e .before .before .before .args in
     name-u (drop (a .at) (a .s .now)) (sym (e .before .letter-at .ensures) ∙ e .if1 .left) (sym (t .before .letter-at2 .ensures) ∙ t .if2 .taken) ∙ c .utc-name2 .ensures
-
-slice-aggregate-utc-name-3 : tie.Need-slice-aggregate-utc-name-3
-slice-aggregate-utc-name-3 c = search needs
 
 utc-name-requires-3 : tie.Need-utc-name-requires-3
 unfolding every within inside
@@ -58,14 +43,14 @@ pub zone-name-spec : {M : Type 1} → statement M
 zone-name-spec =
     tie.close
     (tie.spec
-    letter-at-requires
-    slice-aggregate-utc-name
+    (λ c κs. search needs)
+    (λ c. search needs)
     utc-name-requires
     returns
-    letter-at-requires-2
-    slice-aggregate-utc-name-2
+    (λ c κs. search needs)
+    (λ c. search needs)
     utc-name-requires-2
     returns-2
-    slice-aggregate-utc-name-3
+    (λ c. search needs)
     utc-name-requires-3
     returns-3)

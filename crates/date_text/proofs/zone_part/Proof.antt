@@ -6,15 +6,6 @@ use Rattle.date_text.proofs.Steps.{zone-yes, zone-no}
 use Rattle.date_text.proofs.zone_part.Statement.{statement}
 use Rattle.date_text.proofs.zone_part.Tie as tie
 
-slice-aggregate-starts-in : tie.Need-slice-aggregate-starts-in
-slice-aggregate-starts-in c = search needs
-
-starts-in-requires : tie.Need-starts-in-requires
-starts-in-requires c κs = search needs
-
-zone-at-requires : tie.Need-zone-at-requires
-zone-at-requires c κs = search needs
-
 returns : tie.Need-returns
 returns c = let t = c .before in let a = t .before .before .before .before .args in zone-yes (drop (a .at) (a .s .now)) (sym (t .before .starts-in .ensures) ∙ t .if1 .taken) ∙ c .zone-at .ensures
 
@@ -24,4 +15,9 @@ returns-2 c = let a = c .before .before .before .before .args in zone-no (drop (
 pub zone-part-spec : {M : Type 1} → statement M
 zone-part-spec =
     tie.close
-    (tie.spec slice-aggregate-starts-in starts-in-requires zone-at-requires returns returns-2)
+    (tie.spec
+    (λ c. search needs)
+    (λ c κs. search needs)
+    (λ c κs. search needs)
+    returns
+    returns-2)

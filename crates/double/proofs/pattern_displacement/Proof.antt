@@ -19,9 +19,6 @@ count-le c =
     let a = c .before in
     le-trans (le-of-eq (c .scaled-size .ensures .nearest)) (bounded (a .args .scale) (a .pre .0) (a .args .p .field) (a .args .p .digits) (a .pre .1 .1) (a .pre .1 .0))
 
-scaled-size-requires : tie.Need-scaled-size-requires
-scaled-size-requires c κs = search needs
-
 signed-size-requires : tie.Need-signed-size-requires
 signed-size-requires c κs = lt-of-le-of-lt (count-le c) (lit≤ tt)
 
@@ -37,4 +34,9 @@ returns c =
     }
 
 pub pattern-displacement-spec : {M : Type 1} → statement M
-pattern-displacement-spec = tie.close (tie.spec scaled-size-requires signed-size-requires returns)
+pattern-displacement-spec =
+    tie.close
+    (tie.spec
+    (λ c κs. search needs)
+    signed-size-requires
+    returns)

@@ -42,17 +42,8 @@ answered b t r =
     subst (λ (P : ℕ). Reaches t P (a q .args .n)) (q .scale-of .ensures .0)
     (subst (λ (z : ℤ). Reaches t (s q .micros) z) (crossed (a q .args .n) (b .biased .result) (a q .fits .n) (b .biased .ensures)) r)
 
-scale-of-requires : tie.Need-scale-of-requires
-scale-of-requires c κs = search needs
-
 sub-most : tie.Need-sub-most
 sub-most c = let q = c .before in two (s q) (q .scale-of .ensures .1) (short q)
-
-shl-most : tie.Need-shl-most
-shl-most c = search needs
-
-biased-requires : tie.Need-biased-requires
-biased-requires c κs = search needs
 
 sub-if1 : tie.Need-sub-if1
 sub-if1 c = omega (arith, most-le (c .before .before))
@@ -79,10 +70,10 @@ pub reaches-spec : {M : Type 1} → statement M
 reaches-spec =
     tie.close
     (tie.spec
-    scale-of-requires
+    (λ c κs. search needs)
     sub-most
-    shl-most
-    biased-requires
+    (λ c. search needs)
+    (λ c κs. search needs)
     sub-if1
     returns
     add-result

@@ -27,26 +27,14 @@ module _ (c : tie.After-displacement-of) where
   said : (r : DisplacementAnswer) → c .displacement-of .result ≡ r → DisplacementAnswerOf r (lengthOf (a .args .p)) (a .args .x)
   said r e = subst (λ (P : ℕ). DisplacementAnswerOf r P (a .args .x)) (c .before .scale-of .ensures .0) (subst (λ (k : DisplacementAnswer). DisplacementAnswerOf k (c .before .scale-of .result .micros) (a .args .x)) e (c .displacement-of .ensures))
 
-scale-of-requires : tie.Need-scale-of-requires
-scale-of-requires c κs = search needs
-
 displacement-of-requires : tie.Need-displacement-of-requires
 displacement-of-requires c κs = c .scale-of .ensures .1
-
-enum-told : tie.Need-enum-told
-enum-told c = search needs
 
 returns : tie.Need-returns
 returns c = let q = c .before .before in not-finite (a q .args .c) (a q .args .p) (a q .args .reference) (a q .args .x) (said q NotFinite (c .enum-told .given .1))
 
-enum-told-2 : tie.Need-enum-told-2
-enum-told-2 c = search needs
-
 returns-2 : tie.Need-returns-2
 returns-2 c = let q = c .before .before in large (a q .args .c) (a q .args .p) (a q .args .reference) (a q .pre) (a q .args .x) (said q Large (c .enum-told2 .given .1))
-
-enum-known-a : tie.Need-enum-known-a
-enum-known-a c = search needs
 
 -- the displacement of the last arm
 module _ (c : tie.After-struct-told) where
@@ -68,9 +56,6 @@ module _ (c : tie.After-struct-told) where
 add-reading-at : tie.Need-add-reading-at
 add-reading-at c = sum-fits (a (q c) .args .reference) (d c .count) (a (q c) .fits .reference) (fits c) (near c) (told c .1)
 
-reading-at-requires : tie.Need-reading-at-requires
-reading-at-requires c κs = search needs
-
 returns-3 : tie.Need-returns-3
 returns-3 c =
     let t = c .before in
@@ -83,13 +68,13 @@ pub read-double-spec : {M : Type 1} → statement M
 read-double-spec =
     tie.close
     (tie.spec
-    scale-of-requires
+    (λ c κs. search needs)
     displacement-of-requires
-    enum-told
+    (λ c. search needs)
     returns
-    enum-told-2
+    (λ c. search needs)
     returns-2
-    enum-known-a
+    (λ c. search needs)
     add-reading-at
-    reading-at-requires
+    (λ c κs. search needs)
     returns-3)

@@ -24,18 +24,12 @@ said b {s} e =
     subst (λ (t : Bool). Reaches t (lengthOf (a .args .p)) (a .args .n)) e
     (subst (λ (z : ℤ). Reaches (b .reaches .result) (lengthOf (a .args .p)) z) (toZ-ofZ w64 (a .args .n) (a .fits .n)) (b .reaches .ensures))
 
-reaches-requires : tie.Need-reaches-requires
-reaches-requires c κs = search needs
-
 time-at-requires : tie.Need-time-at-requires
 time-at-requires c κs =
     let a = c .before .before in (
       subst (λ (z : ℤ). mag z < 2 ^ 59) (sym (toZ-ofZ w64 (a .args .reference) (a .fits .reference))) (omega (arith, small (a .args .c) (a .args .reference) (a .pre))),
       subst (λ (z : ℤ). natAbs z * lengthOf (a .args .p) ≤ 2 ^ 61) (sym (toZ-ofZ w64 (a .args .n) (a .fits .n))) (said (c .before) (c .if1 .taken)),
     )
-
-reading-at-requires : tie.Need-reading-at-requires
-reading-at-requires c κs = search needs
 
 returns : tie.Need-returns
 unfolding readWhole
@@ -57,4 +51,9 @@ returns-2 c =
 pub read-whole-spec : {M : Type 1} → statement M
 read-whole-spec =
     tie.close
-    (tie.spec reaches-requires time-at-requires reading-at-requires returns returns-2)
+    (tie.spec
+    (λ c κs. search needs)
+    time-at-requires
+    (λ c κs. search needs)
+    returns
+    returns-2)

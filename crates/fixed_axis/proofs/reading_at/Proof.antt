@@ -14,9 +14,6 @@ use Rattle.fixed_axis.proofs.reading_at.Tie as tie
 tested : (b : tie.After-in-range) {s : Bool} → b .in-range .result ≡ s → inRange (b .before .args .c) (b .before .args .t) ≡ s
 tested b e = let a = b .before in ap (inRange (a .args .c)) (sym (toZ-ofZ w64 (a .args .t) (a .fits .t))) ∙ (sym (b .in-range .ensures) ∙ e)
 
-in-range-requires : tie.Need-in-range-requires
-in-range-requires c κs = search needs
-
 returns : tie.Need-returns
 returns c =
     let a = c .before .before in
@@ -26,4 +23,9 @@ returns-2 : tie.Need-returns-2
 returns-2 c = let a = c .before .before in settled (a .args .c) (a .args .t) (a .args .exact) (tested (c .before) (c .if1 .left))
 
 pub reading-at-spec : {M : Type 1} → statement M
-reading-at-spec = tie.close (tie.spec in-range-requires returns returns-2)
+reading-at-spec =
+    tie.close
+    (tie.spec
+    (λ c κs. search needs)
+    returns
+    returns-2)

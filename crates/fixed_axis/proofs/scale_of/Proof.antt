@@ -6,9 +6,6 @@ use Rattle.fixed_axis.proofs.Periods.{lengths}
 use Rattle.fixed_axis.proofs.scale_of.Statement.{statement}
 use Rattle.fixed_axis.proofs.scale_of.Tie as tie
 
-microseconds-requires : tie.Need-microseconds-requires
-microseconds-requires c κs = search needs
-
 scale-of-requires : tie.Need-scale-of-requires
 scale-of-requires c κs = let l = lengths (c .before .args .p) in (omega (arith, l, c .microseconds .ensures), omega (arith, l, c .microseconds .ensures))
 
@@ -16,4 +13,9 @@ returns : tie.Need-returns
 returns c = (c .scale-of .ensures .0 ∙ c .before .microseconds .ensures, c .scale-of .ensures .1)
 
 pub scale-of-spec : {M : Type 1} → statement M
-scale-of-spec = tie.close (tie.spec microseconds-requires scale-of-requires returns)
+scale-of-spec =
+    tie.close
+    (tie.spec
+    (λ c κs. search needs)
+    scale-of-requires
+    returns)

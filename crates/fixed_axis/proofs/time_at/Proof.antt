@@ -37,9 +37,6 @@ module _ (c : tie.After-microseconds) where
   fits : SFits w64 w
   fits = record { sfits = omega (arith, mag-small) }
 
-microseconds-requires : tie.Need-microseconds-requires
-microseconds-requires c κs = search needs
-
 cast-result : tie.Need-cast-result
 cast-result c = record { sfits = short c }
 
@@ -56,4 +53,10 @@ returns c =
 
 pub time-at-spec : {M : Type 1} → statement M
 time-at-spec =
-    tie.close (tie.spec microseconds-requires cast-result mul-result add-result returns)
+    tie.close
+    (tie.spec
+    (λ c κs. search needs)
+    cast-result
+    mul-result
+    add-result
+    returns)

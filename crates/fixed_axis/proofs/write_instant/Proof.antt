@@ -45,18 +45,6 @@ module _ (c : tie.After-distance) where
       ∙ (sym (periods from to P size (c .distance .ensures))
       ∙ (λ i. inPeriods (crossed (a .args .t) to (a .fits .t) (c .before .biased2 .ensures) i -ℤ crossed (a .args .reference) from (a .fits .reference) (c .before .before .biased .ensures) i) (c .before .before .before .microseconds .ensures i)))
 
-microseconds-requires : tie.Need-microseconds-requires
-microseconds-requires c κs = search needs
-
-biased-requires : tie.Need-biased-requires
-biased-requires c κs = search needs
-
-biased-requires-2 : tie.Need-biased-requires-2
-biased-requires-2 c κs = search needs
-
-distance-requires : tie.Need-distance-requires
-distance-requires c κs = search needs
-
 rem-if1 : tie.Need-rem-if1
 rem-if1 c = omega (arith, long c)
 
@@ -79,10 +67,10 @@ pub write-instant-spec : {M : Type 1} → statement M
 write-instant-spec =
     tie.close
     (tie.spec
-    microseconds-requires
-    biased-requires
-    biased-requires-2
-    distance-requires
+    (λ c κs. search needs)
+    (λ c κs. search needs)
+    (λ c κs. search needs)
+    (λ c κs. search needs)
     rem-if1
     div-signed-size
     signed-size-requires

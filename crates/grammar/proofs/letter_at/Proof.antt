@@ -6,17 +6,8 @@ use Rattle.grammar.proofs.Steps.{either-yes, either-else}
 use Rattle.grammar.proofs.letter_at.Statement.{statement}
 use Rattle.grammar.proofs.letter_at.Tie as tie
 
-next-in-requires : tie.Need-next-in-requires
-next-in-requires c κs = search needs
-
 returns : tie.Need-returns
 returns c = let a = c .before .before .before .args in sym (either-yes (a .capital) (drop (a .at) (a .s .now)) (sym (c .before .next-in .ensures) ∙ c .if1 .taken))
-
-add-small : tie.Need-add-small
-add-small c = search needs
-
-next-in-requires-2 : tie.Need-next-in-requires-2
-next-in-requires-2 c κs = search needs
 
 returns-2 : tie.Need-returns-2
 returns-2 c =
@@ -24,4 +15,11 @@ returns-2 c =
     c .next-in2 .ensures ∙ sym (either-else (a .capital) (drop (a .at) (a .s .now)) (sym (c .before .before .next-in .ensures) ∙ c .before .if1 .left))
 
 pub letter-at-spec : {M : Type 1} → statement M
-letter-at-spec = tie.close (tie.spec next-in-requires returns add-small next-in-requires-2 returns-2)
+letter-at-spec =
+    tie.close
+    (tie.spec
+    (λ c κs. search needs)
+    returns
+    (λ c. search needs)
+    (λ c κs. search needs)
+    returns-2)

@@ -8,9 +8,6 @@ use Rattle.grammar.proofs.next_in.Tie as tie
 returns : tie.Need-returns
 returns c = sym (starts-past _ _ _ (c .if1 .taken))
 
-shared-slice-read-b : tie.Need-shared-slice-read-b
-shared-slice-read-b c = search needs
-
 returns-2 : tie.Need-returns-2
 returns-2 c = sym (starts-at _ _ _ (c .before .before .if1 .left) ∙ span-below _ _ _ (c .if2 .taken))
 
@@ -21,4 +18,11 @@ returns-4 : tie.Need-returns-4
 returns-4 c = sym (starts-at _ _ _ (c .before .before .before .if1 .left) ∙ span-in _ _ _ (c .before .if2 .left) (c .if3 .left))
 
 pub next-in-spec : {M : Type 1} → statement M
-next-in-spec = tie.close (tie.spec returns shared-slice-read-b returns-2 returns-3 returns-4)
+next-in-spec =
+    tie.close
+    (tie.spec
+    returns
+    (λ c. search needs)
+    returns-2
+    returns-3
+    returns-4)

@@ -12,19 +12,10 @@ use Rattle.grammar.proofs.Steps.{run-empty, number-long, number-is}
 use Rattle.grammar.proofs.number_at.Statement.{statement}
 use Rattle.grammar.proofs.number_at.Tie as tie
 
-run-end-requires : tie.Need-run-end-requires
-run-end-requires c κs = search needs
-
 returns : tie.Need-returns
 returns c =
     let e = c .before .run-end .ensures in
     run-empty _ _ _ _ (omega arith)
-
-sub-d : tie.Need-sub-d
-sub-d c = search needs
-
-part-d-start : tie.Need-part-d-start
-part-d-start c = search needs
 
 part-d-end : tie.Need-part-d-end
 part-d-end c = let a = c .before .before .before .args in run-end digit (a .s .now) (a .at) (c .before .run-end .result) (c .before .run-end .ensures) (c .if1 .left)
@@ -57,10 +48,10 @@ pub number-at-spec : {M : Type 1} → statement M
 number-at-spec =
     tie.close
     (tie.spec
-    run-end-requires
+    (λ c κs. search needs)
     returns
-    sub-d
-    part-d-start
+    (λ c. search needs)
+    (λ c. search needs)
     part-d-end
     returns-2
     decimal-of-requires

@@ -22,9 +22,6 @@ abbrev μ-loop : tie.MeasureT-loop
 loop-holds : tie.Need-loop-holds Inv-loop μ-loop
 loop-holds c = refl
 
-next-in-requires : tie.Need-next-in-requires Inv-loop μ-loop
-next-in-requires c κs = search needs
-
 more : (c : tie.Then1 Inv-loop μ-loop) → starts (span (c .before .before .before .before .args .lo) (c .before .before .before .before .args .hi)) (drop (c .before .before .loop .i) (c .before .before .before .before .args .s .now)) ≡ true
 more c = sym (c .before .next-in .ensures) ∙ c .if1 .taken
 
@@ -46,4 +43,12 @@ returns c = sym (c .before .before .loop .inv ∙ run-stop _ _ _ (sym (c .before
 pub run-end-spec : {M : Type 1} → statement M
 run-end-spec =
     tie.close
-    (tie.spec Inv-loop μ-loop loop-holds next-in-requires add-i loop-less loop-again returns)
+    (tie.spec
+    Inv-loop
+    μ-loop
+    loop-holds
+    (λ c κs. search needs)
+    add-i
+    loop-less
+    loop-again
+    returns)

@@ -19,14 +19,8 @@ abbrev μ-loop : tie.MeasureT-loop
 returns : tie.Need-returns Inv-loop μ-loop
 returns c = let a = c .before .args in sym (starts-past _ (a .s .now) (a .at) (c .if1 .taken))
 
-shared-slice-read-b : tie.Need-shared-slice-read-b Inv-loop μ-loop
-shared-slice-read-b c = search needs
-
 loop-holds : tie.Need-loop-holds Inv-loop μ-loop
 loop-holds c = (omega arith, refl)
-
-shared-slice-read-if2 : tie.Need-shared-slice-read-if2 Inv-loop μ-loop
-shared-slice-read-if2 c = search needs
 
 returns-2 : tie.Need-returns-2 Inv-loop μ-loop
 returns-2 c =
@@ -61,9 +55,9 @@ starts-in-spec =
     Inv-loop
     μ-loop
     returns
-    shared-slice-read-b
+    (λ c. search needs)
     loop-holds
-    shared-slice-read-if2
+    (λ c. search needs)
     returns-2
     add-i
     loop-less

@@ -43,29 +43,17 @@ both c =
       high1 = d1 .1;
     }
 
-next-in-requires : tie.Need-next-in-requires
-next-in-requires c κs = search needs
-
 add-b : tie.Need-add-b
 add-b c = let a = c .before .before .before .args in let h = starts-lt digit (a .s .now) (a .at) (sym (c .before .next-in .ensures) ∙ c .if1 .taken) in omega arith
 
-next-in-requires-2 : tie.Need-next-in-requires-2
-next-in-requires-2 c κs = search needs
-
 shared-slice-read-wide : tie.Need-shared-slice-read-wide
 shared-slice-read-wide c = both (c .before) .in0
-
-wide-requires : tie.Need-wide-requires
-wide-requires c κs = search needs
 
 sub-tens : tie.Need-sub-tens
 sub-tens c = let h = both (c .before .before) in omega (arith, c .wide .ensures)
 
 shared-slice-read-wide-2 : tie.Need-shared-slice-read-wide-2
 shared-slice-read-wide-2 c = both (c .before .before .before) .in1
-
-wide-requires-2 : tie.Need-wide-requires-2
-wide-requires-2 c κs = search needs
 
 sub-ones : tie.Need-sub-ones
 sub-ones c = let h = both (c .before .before .before .before) in omega (arith, c .wide2 .ensures)
@@ -100,14 +88,14 @@ pub two-digits-spec : {M : Type 1} → statement M
 two-digits-spec =
     tie.close
     (tie.spec
-    next-in-requires
+    (λ c κs. search needs)
     add-b
-    next-in-requires-2
+    (λ c κs. search needs)
     shared-slice-read-wide
-    wide-requires
+    (λ c κs. search needs)
     sub-tens
     shared-slice-read-wide-2
-    wide-requires-2
+    (λ c κs. search needs)
     sub-ones
     mul-t8
     add-t12

@@ -22,9 +22,6 @@ abbrev μ-loop : tie.MeasureT-loop
 loop-holds : tie.Need-loop-holds Inv-loop μ-loop
 loop-holds c = (omega arith, refl)
 
-shared-slice-read-letter-at : tie.Need-shared-slice-read-letter-at Inv-loop μ-loop
-shared-slice-read-letter-at c = search needs
-
 letter-at-requires : tie.Need-letter-at-requires Inv-loop μ-loop
 letter-at-requires c κs =
     let l = c .before .before in
@@ -76,7 +73,7 @@ word-at-spec =
     Inv-loop
     μ-loop
     loop-holds
-    shared-slice-read-letter-at
+    (λ c. search needs)
     letter-at-requires
     add-at
     add-i

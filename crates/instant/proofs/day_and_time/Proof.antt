@@ -11,29 +11,11 @@ use Rattle.instant.proofs.day_and_time.Tie as tie
 instant-is : (b : tie.After-biased) → unbiased (b .biased .result) ≡ b .before .args .t
 instant-is b = crossed (b .before .args .t) (b .biased .result) (b .before .fits .t) (b .biased .ensures)
 
-biased-requires : tie.Need-biased-requires
-biased-requires c κs = search needs
-
-sub-t5 : tie.Need-sub-t5
-sub-t5 c = search needs
-
-sub-t6 : tie.Need-sub-t6
-sub-t6 c = search needs
-
-add-t7 : tie.Need-add-t7
-add-t7 c = search needs
-
 returns : tie.Need-returns
 returns c =
     let b = c .before in
     let k = b .biased .result in
     (day-early k (c .if1 .taken) ∙ ap dayOf (instant-is b), time-early k (c .if1 .taken) ∙ ap timeOf (instant-is b))
-
-sub-t9 : tie.Need-sub-t9
-sub-t9 c = search needs
-
-add-t10 : tie.Need-add-t10
-add-t10 c = search needs
 
 returns-2 : tie.Need-returns-2
 returns-2 c =
@@ -44,4 +26,12 @@ returns-2 c =
 pub day-and-time-spec : {M : Type 1} → statement M
 day-and-time-spec =
     tie.close
-    (tie.spec biased-requires sub-t5 sub-t6 add-t7 returns sub-t9 add-t10 returns-2)
+    (tie.spec
+    (λ c κs. search needs)
+    (λ c. search needs)
+    (λ c. search needs)
+    (λ c. search needs)
+    returns
+    (λ c. search needs)
+    (λ c. search needs)
+    returns-2)

@@ -21,20 +21,8 @@ settled d a e =
     let t = toZ-ofZ w64 (a .args .t) (a .fits .t) in
     λ i. withTime ((sym e ∙ (d .date-of-biased-day .ensures ∙ ap (dateAnswer (a .args .c)) (s .ensures .0 ∙ ap dayOf t))) i) ((s .ensures .1 ∙ ap timeOf t) i)
 
-day-and-time-requires : tie.Need-day-and-time-requires
-day-and-time-requires c κs = search needs
-
-date-of-biased-day-requires : tie.Need-date-of-biased-day-requires
-date-of-biased-day-requires c κs = search needs
-
-enum-known-r : tie.Need-enum-known-r
-enum-known-r c = search needs
-
 returns : tie.Need-returns
 returns c = settled (c .before .before .before) (DateAnswer.Refused (c .before .r .given .0 .0)) (c .before .r .given .1)
-
-enum-known-d : tie.Need-enum-known-d
-enum-known-d c = search needs
 
 fields-at-requires : tie.Need-fields-at-requires
 fields-at-requires c κs =
@@ -50,10 +38,10 @@ pub fields-of-spec : {M : Type 1} → statement M
 fields-of-spec =
     tie.close
     (tie.spec
-    day-and-time-requires
-    date-of-biased-day-requires
-    enum-known-r
+    (λ c κs. search needs)
+    (λ c κs. search needs)
+    (λ c. search needs)
     returns
-    enum-known-d
+    (λ c. search needs)
     fields-at-requires
     returns-2)

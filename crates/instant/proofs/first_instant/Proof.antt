@@ -12,9 +12,6 @@ use Rattle.instant.specs.Instant.{instantAt}
 use Rattle.instant.proofs.first_instant.Statement.{statement}
 use Rattle.instant.proofs.first_instant.Tie as tie
 
-first-day-requires : tie.Need-first-day-requires
-first-day-requires c κs = search needs
-
 instant-on-requires : tie.Need-instant-on-requires
 instant-on-requires c κs = (omega (arith, small (c .before .args .c), c .first-day .ensures), omega arith)
 
@@ -25,4 +22,9 @@ returns c =
     ∙ (c .instant-on .ensures ∙ ap (λ (n : ℕ). instantAt (subℕ n (epochDay (f .before .args .c))) 0) (f .first-day .ensures))
 
 pub first-instant-spec : {M : Type 1} → statement M
-first-instant-spec = tie.close (tie.spec first-day-requires instant-on-requires returns)
+first-instant-spec =
+    tie.close
+    (tie.spec
+    (λ c κs. search needs)
+    instant-on-requires
+    returns)

@@ -26,16 +26,10 @@ module _ (b : tie.After-first-instant) where
       leZ-not (firstInstant (a .args .c)) (a .args .t)
       ∙ ap not ((λ i. ltZ (sym instant-is i) (sym (toZ-ofZ w64 (b .first-instant .result) (record { sfits = b .first-instant .ok }) ∙ b .first-instant .ensures) i)) ∙ h)
 
-first-instant-requires : tie.Need-first-instant-requires
-first-instant-requires c κs = search needs
-
 returns : tie.Need-returns
 returns c =
     let s = a (c .before) in
     sym (range (s .args .c) (s .args .t) ∙ left-out (leZ (firstInstant (s .args .c)) (s .args .t)) (leZ (s .args .t) (lastInstant (s .args .c))) (first-test (c .before) (c .if1 .taken)))
-
-last-instant-requires : tie.Need-last-instant-requires
-last-instant-requires c κs = search needs
 
 returns-2 : tie.Need-returns-2
 returns-2 c =
@@ -46,4 +40,10 @@ returns-2 c =
     ∙ sym (range (s .args .c) (s .args .t))
 
 pub in-range-spec : {M : Type 1} → statement M
-in-range-spec = tie.close (tie.spec first-instant-requires returns last-instant-requires returns-2)
+in-range-spec =
+    tie.close
+    (tie.spec
+    (λ c κs. search needs)
+    returns
+    (λ c κs. search needs)
+    returns-2)

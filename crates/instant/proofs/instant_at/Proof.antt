@@ -18,12 +18,6 @@ module _ (b : tie.After-biased) where
   near : (9223372036849775808 ≤ b .biased .result) × (b .biased .result < 9223372036859775808)
   near = day-near (b .before .args .day) (b .biased .result) (b .before .args .time) (b .before .pre .0) day-is
 
-biased-requires : tie.Need-biased-requires
-biased-requires c κs = search needs
-
-sub-n : tie.Need-sub-n
-sub-n c = search needs
-
 sub-n-2 : tie.Need-sub-n-2
 sub-n-2 c = near c .0
 
@@ -33,14 +27,8 @@ mul-unbiased c = record { fits = omega (arith, near c .0, near c .1) }
 add-unbiased : tie.Need-add-unbiased
 add-unbiased c = record { fits = omega (arith, near c .0, near c .1, c .before .pre .1) }
 
-sub-unbiased : tie.Need-sub-unbiased
-sub-unbiased c = search needs
-
 add-unbiased-2 : tie.Need-add-unbiased-2
 add-unbiased-2 c = record { fits = omega (arith, near c .0, near c .1, c .before .pre .1) }
-
-unbiased-requires : tie.Need-unbiased-requires
-unbiased-requires c κs = search needs
 
 returns : tie.Need-returns
 returns c =
@@ -52,12 +40,12 @@ pub instant-at-spec : {M : Type 1} → statement M
 instant-at-spec =
     tie.close
     (tie.spec
-    biased-requires
-    sub-n
+    (λ c κs. search needs)
+    (λ c. search needs)
     sub-n-2
     mul-unbiased
     add-unbiased
-    sub-unbiased
+    (λ c. search needs)
     add-unbiased-2
-    unbiased-requires
+    (λ c κs. search needs)
     returns)

@@ -18,14 +18,8 @@ use Rattle.instant.proofs.instant_on.Tie as tie
 add-unbiased : tie.Need-add-unbiased
 add-unbiased c = record { fits = omega (arith, small (c .args .c), c .pre .0) }
 
-epoch-day-requires : tie.Need-epoch-day-requires
-epoch-day-requires c κs = search needs
-
 sub-unbiased : tie.Need-sub-unbiased
 sub-unbiased c = omega (arith, small (c .before .args .c), c .epoch-day .ensures)
-
-unbiased-requires : tie.Need-unbiased-requires
-unbiased-requires c κs = search needs
 
 -- the day, counted from 1970-01-01
 module _ (c : tie.After-unbiased) where
@@ -54,8 +48,8 @@ instant-on-spec =
     tie.close
     (tie.spec
     add-unbiased
-    epoch-day-requires
+    (λ c κs. search needs)
     sub-unbiased
-    unbiased-requires
+    (λ c κs. search needs)
     instant-at-requires
     returns)

@@ -12,9 +12,6 @@ use Rattle.instant.specs.Instant.{instantAt}
 use Rattle.instant.proofs.last_instant.Statement.{statement}
 use Rattle.instant.proofs.last_instant.Tie as tie
 
-end-day-requires : tie.Need-end-day-requires
-end-day-requires c κs = search needs
-
 sub-instant-on : tie.Need-sub-instant-on
 sub-instant-on c = omega (arith, small (c .before .args .c), c .end-day .ensures)
 
@@ -29,4 +26,9 @@ returns c =
 
 pub last-instant-spec : {M : Type 1} → statement M
 last-instant-spec =
-    tie.close (tie.spec end-day-requires sub-instant-on instant-on-requires returns)
+    tie.close
+    (tie.spec
+    (λ c κs. search needs)
+    sub-instant-on
+    instant-on-requires
+    returns)

@@ -11,12 +11,6 @@ use Rattle.iso_form.proofs.Laws.{lead-small, iso-length, short-answer, 
 use Rattle.iso_form.proofs.write_form.Statement.{statement}
 use Rattle.iso_form.proofs.write_form.Tie as tie
 
-text-requires : tie.Need-text-requires
-text-requires c κs = search needs
-
-start-requires : tie.Need-start-requires
-start-requires c κs = search needs
-
 small : (c : tie.After-start) → c .start .result ≤ 1
 small c = let h = lead-small (c .before .before .before .args .w .negative) in omega (arith, c .start .ensures)
 
@@ -39,15 +33,6 @@ sub-copy c = let s = small (c .before) in omega arith
 part-copy-start : tie.Need-part-copy-start
 part-copy-start c = let s = small (c .before .before) in omega arith
 
-part-copy-end : tie.Need-part-copy-end
-part-copy-end c = search needs
-
-copy-requires : tie.Need-copy-requires
-copy-requires c κs = search needs
-
-same-length : tie.Need-same-length
-same-length c = search needs
-
 returns-2 : tie.Need-returns-2
 returns-2 c =
     let st = c .before .before .before .before .before .before .before in
@@ -61,13 +46,13 @@ pub write-form-spec : {M : Type 1} → statement M
 write-form-spec =
     tie.close
     (tie.spec
-    text-requires
-    start-requires
+    (λ c κs. search needs)
+    (λ c κs. search needs)
     sub-n
     returns
     sub-copy
     part-copy-start
-    part-copy-end
-    copy-requires
-    same-length
+    (λ c. search needs)
+    (λ c κs. search needs)
+    (λ c. search needs)
     returns-2)

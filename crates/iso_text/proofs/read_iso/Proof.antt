@@ -23,35 +23,14 @@ module _ (d : tie.After-read-date) where
       text-read InstantAnswer.Refused dateRule writtenInstant _ _ _ _ (sym (d .before .before .c .given .1) ∙ k .text-calendar .ensures)
       (written-back _ (d .read-date .result) (d .read-date .ensures) ∙ ap writtenValue e)
 
-text-calendar-requires : tie.Need-text-calendar-requires
-text-calendar-requires c κs = search needs
-
-enum-known-r : tie.Need-enum-known-r
-enum-known-r c = search needs
-
 returns : tie.Need-returns
 unfolding readIso
 returns c =
     let k = c .before .before .before in
     text-refused InstantAnswer.Refused dateRule writtenInstant (k .before .before .before .args .name .now) (k .before .before .before .args .text .now) _ (sym (c .before .r .given .1) ∙ k .text-calendar .ensures)
 
-enum-known-c : tie.Need-enum-known-c
-enum-known-c c = search needs
-
-read-date-requires : tie.Need-read-date-requires
-read-date-requires c κs = search needs
-
-enum-known-w : tie.Need-enum-known-w
-enum-known-w c = search needs
-
-enum-told : tie.Need-enum-told
-enum-told c = search needs
-
 returns-2 : tie.Need-returns-2
 returns-2 c = read (c .before .before) _ (c .enum-told .given .1)
-
-written-instant-requires : tie.Need-written-instant-requires
-written-instant-requires c κs = search needs
 
 returns-3 : tie.Need-returns-3
 returns-3 c = let w = c .before .before in c .written-instant .ensures ∙ read (w .before .before) _ (w .w .given .1)
@@ -60,13 +39,13 @@ pub read-iso-spec : {M : Type 1} → statement M
 read-iso-spec =
     tie.close
     (tie.spec
-    text-calendar-requires
-    enum-known-r
+    (λ c κs. search needs)
+    (λ c. search needs)
     returns
-    enum-known-c
-    read-date-requires
-    enum-known-w
-    enum-told
+    (λ c. search needs)
+    (λ c κs. search needs)
+    (λ c. search needs)
+    (λ c. search needs)
     returns-2
-    written-instant-requires
+    (λ c κs. search needs)
     returns-3)

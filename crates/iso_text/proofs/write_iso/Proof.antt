@@ -3,10 +3,6 @@ use borrow.Author.Needs.{needs}
 use mathlib.Core.Path.{_≡_, sym, ap, _∙_}
 use mir.ValLaws.{toZ-ofZ}
 use mir.Syntax.{w64}
-use mir.ValLaws.{toZ-ofZ}
-use mir.Syntax.{w64}
-use mir.ValLaws.{toZ-ofZ}
-use mir.Syntax.{w64}
 use Rattle.date_text.specs.declared.WrittenDate.{WrittenDate}
 use Rattle.instant.specs.Instant.{fieldsAnswer}
 use Rattle.instant.specs.declared.FieldsAnswer.{FieldsAnswer}
@@ -20,12 +16,6 @@ use Rattle.iso_text.proofs.write_iso.Tie as tie
 answer : (a : tie.After-fields-of) → a .fields-of .result ≡ fieldsAnswer (a .before .before .args .c) (a .before .before .args .t)
 answer a = let st = a .before .before in a .fields-of .ensures ∙ ap (fieldsAnswer (st .args .c)) (toZ-ofZ w64 (st .args .t) (st .fits .t))
 
-fields-of-requires : tie.Need-fields-of-requires
-fields-of-requires c κs = search needs
-
-enum-known-r : tie.Need-enum-known-r
-enum-known-r c = search needs
-
 returns : tie.Need-returns
 unfolding writeIso roomIso
 returns c =
@@ -34,20 +24,11 @@ returns c =
     let e = sym (c .before .r .given .1) ∙ answer a in
     (ap (λ (o : FieldsAnswer). isoLength o (st .args .room .now)) e, ap (λ (o : FieldsAnswer). isoRoom o (st .args .room .now)) e)
 
-enum-known-f : tie.Need-enum-known-f
-enum-known-f c = search needs
-
 written-of-requires : tie.Need-written-of-requires
 written-of-requires c κs =
     let a = c .before .before .before in
     let st = a .before .before in
     fields-year (st .args .c) (st .args .t) _ (sym (answer a) ∙ c .before .f .given .1)
-
-write-form-requires : tie.Need-write-form-requires
-write-form-requires c κs = search needs
-
-same-length : tie.Need-same-length
-same-length c = search needs
 
 returns-2 : tie.Need-returns-2
 unfolding writeIso roomIso
@@ -65,11 +46,11 @@ pub write-iso-spec : {M : Type 1} → statement M
 write-iso-spec =
     tie.close
     (tie.spec
-    fields-of-requires
-    enum-known-r
+    (λ c κs. search needs)
+    (λ c. search needs)
     returns
-    enum-known-f
+    (λ c. search needs)
     written-of-requires
-    write-form-requires
-    same-length
+    (λ c κs. search needs)
+    (λ c. search needs)
     returns-2)

@@ -6,23 +6,12 @@ use mir.Syntax.{w64}
 use lib.Signed.{ltZ}
 use mir.Val.{SFits}
 use lib.IntN.{natAbs, ℤ, pos}
-use mir.ValLaws.{toZ-ofZ}
-use mir.Syntax.{w64}
-use lib.Signed.{ltZ}
-use mir.Val.{SFits}
-use lib.IntN.{ℤ, pos}
-use mir.ValLaws.{toZ-ofZ}
-use mir.Syntax.{w64}
-use mir.Val.{SFits}
 use lib.IntN.{ℤ, pos}
 use Rattle.date_text.specs.DateRule.{utc, zone, time}
 use Rattle.signed.proofs.Machine.{negative}
 use Rattle.iso_text.proofs.Laws.{year-sign}
 use Rattle.iso_text.proofs.written_of.Statement.{statement}
 use Rattle.iso_text.proofs.written_of.Tie as tie
-
-year-digits-requires : tie.Need-year-digits-requires
-year-digits-requires c κs = search needs
 
 returns : tie.Need-returns
 returns c =
@@ -34,4 +23,8 @@ returns c =
     λ i. record { negative = n i; year = d i; month = f .month; day = f .day; time = record { hour = f .hour; minute = f .minute; second = f .second; microsecond = f .microsecond; zone = utc } }
 
 pub written-of-spec : {M : Type 1} → statement M
-written-of-spec = tie.close (tie.spec year-digits-requires returns)
+written-of-spec =
+    tie.close
+    (tie.spec
+    (λ c κs. search needs)
+    returns)

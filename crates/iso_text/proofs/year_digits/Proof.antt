@@ -12,12 +12,6 @@ use Rattle.iso_text.proofs.year_digits.Tie as tie
 raised : (b : tie.After-biased) → unbiased (b .biased .result) ≡ b .before .args .y
 raised b = crossed (b .before .args .y) (b .biased .result) (b .before .fits .y) (b .biased .ensures)
 
-biased-requires : tie.Need-biased-requires
-biased-requires c κs = search needs
-
-sub-result : tie.Need-sub-result
-sub-result c = search needs
-
 cast-result : tie.Need-cast-result
 cast-result c =
     let b = c .before in
@@ -36,4 +30,11 @@ returns-2 c = let b = c .before in abs-high (b .before .args .y) (b .biased .res
 
 pub year-digits-spec : {M : Type 1} → statement M
 year-digits-spec =
-    tie.close (tie.spec biased-requires sub-result cast-result returns cast-result-2 returns-2)
+    tie.close
+    (tie.spec
+    (λ c κs. search needs)
+    (λ c. search needs)
+    cast-result
+    returns
+    cast-result-2
+    returns-2)

@@ -27,18 +27,6 @@ shows k = sym (k .before .before .read-line .ensures) ∙ k .c .given .1
 instant : (k : tie.After-known-told2) → toZ w64 (ofZ w64 (k .before .c .given .0 .1 .0)) ≡ k .before .c .given .0 .1 .0
 instant k = toZ-ofZ w64 (k .before .c .given .0 .1 .0) (record { sfits = k .known-told2 .given .1 .0 .1 })
 
-read-line-requires : tie.Need-read-line-requires
-read-line-requires c κs = search needs
-
-enum-known-r : tie.Need-enum-known-r
-enum-known-r c = search needs
-
-put-refused-requires : tie.Need-put-refused-requires
-put-refused-requires c κs = search needs
-
-same-length : tie.Need-same-length
-same-length c = search needs
-
 returns : tie.Need-returns
 returns c =
     let p = c .before .before in
@@ -48,14 +36,8 @@ returns c =
     let e = printed (a .line .now) _ (sym (k .r .given .1) ∙ d .read-line .ensures) in
     (p .put-refused .ensures .0 ∙ ap (λ (t : List ℕ). lengthIn t (a .room .now)) e, p .put-refused .ensures .1 ∙ ap (λ (t : List ℕ). over t (a .room .now)) e)
 
-enum-known-c : tie.Need-enum-known-c
-enum-known-c c = search needs
-
 put-shown-requires : tie.Need-put-shown-requires
 put-shown-requires c κs = ap (inRange (c .before .before .c .given .0 .0)) (instant (c .before)) ∙ shown-inside _ _ _ _ (shows (c .before .before))
-
-same-length-2 : tie.Need-same-length-2
-same-length-2 c = search needs
 
 returns-2 : tie.Need-returns-2
 returns-2 c =
@@ -71,12 +53,12 @@ pub answer-spec : {M : Type 1} → statement M
 answer-spec =
     tie.close
     (tie.spec
-    read-line-requires
-    enum-known-r
-    put-refused-requires
-    same-length
+    (λ c κs. search needs)
+    (λ c. search needs)
+    (λ c κs. search needs)
+    (λ c. search needs)
     returns
-    enum-known-c
+    (λ c. search needs)
     put-shown-requires
-    same-length-2
+    (λ c. search needs)
     returns-2)

@@ -11,19 +11,10 @@ use Rattle.listing_line.proofs.Parts.{bar-found, bar-missing, too-many}
 use Rattle.listing_line.proofs.bars_of.Statement.{statement}
 use Rattle.listing_line.proofs.bars_of.Tie as tie
 
-find-requires : tie.Need-find-requires
-find-requires c κs = search needs
-
 returns : tie.Need-returns
 returns c =
     let f = c .before in
     ap ofParts (bar-missing (f .before .before .args .line .now) 0 (f .find .result) (f .find .ensures .0) (omega arith) (c .if1 .taken))
-
-add-find : tie.Need-add-find
-add-find c = search needs
-
-find-requires-2 : tie.Need-find-requires-2
-find-requires-2 c κs = search needs
 
 -- the text before the first bar
 one : (c : tie.Else1) → let f = c .before in let s = f .before .before .args .line .now in parted s ≡ part 0 (f .find .result) s ∷ parted (drop (f .find .result + 1) s)
@@ -38,12 +29,6 @@ returns-2 c =
     let s = f .before .before .args .line .now in
     let a = f .find .result in
     ap ofParts (one (g .before) ∙ ap (_∷_ (part 0 a s)) (bar-missing s (a + 1) (g .find2 .result) (g .find2 .ensures .0) (omega arith) (c .if2 .taken)))
-
-add-find-2 : tie.Need-add-find-2
-add-find-2 c = search needs
-
-find-requires-3 : tie.Need-find-requires-3
-find-requires-3 c κs = search needs
 
 -- the text between the first two bars
 between : (c : tie.Else2) → let g = c .before in let f = g .before .before in let s = f .before .before .args .line .now in let a = f .find .result in let b = g .find2 .result in parted s ≡ part 0 a s ∷ part (a + 1) b s ∷ parted (drop (b + 1) s)
@@ -83,12 +68,12 @@ pub bars-of-spec : {M : Type 1} → statement M
 bars-of-spec =
     tie.close
     (tie.spec
-    find-requires
+    (λ c κs. search needs)
     returns
-    add-find
-    find-requires-2
+    (λ c. search needs)
+    (λ c κs. search needs)
     returns-2
-    add-find-2
-    find-requires-3
+    (λ c. search needs)
+    (λ c κs. search needs)
     returns-3
     returns-4)

@@ -14,12 +14,6 @@ returns c =
     let a = c .before .before .before .args in
     (short-length (a .text .now) (a .room .now) (c .if1 .taken), sym (short-over (a .text .now) (a .room .now) (c .if1 .taken)))
 
-copy-requires : tie.Need-copy-requires
-copy-requires c κs = search needs
-
-same-length : tie.Need-same-length
-same-length c = search needs
-
 returns-2 : tie.Need-returns-2
 returns-2 c =
     let a = c .before .before .before .before .before .before .before .args in
@@ -27,4 +21,10 @@ returns-2 c =
     (c .before .before .copy .ensures .0 ∙ whole-length (a .text .now) (a .room .now) h, c .before .before .copy .ensures .1 ∙ copied (a .text .now) (a .room .now) h)
 
 pub put-spec : {M : Type 1} → statement M
-put-spec = tie.close (tie.spec returns copy-requires same-length returns-2)
+put-spec =
+    tie.close
+    (tie.spec
+    returns
+    (λ c κs. search needs)
+    (λ c. search needs)
+    returns-2)

@@ -8,30 +8,12 @@ use Rattle.listing_line.specs.Line.{roundedText, newline, lengthIn}
 use Rattle.listing_line.proofs.put_end.Statement.{statement}
 use Rattle.listing_line.proofs.put_end.Tie as tie
 
-slice-aggregate-put : tie.Need-slice-aggregate-put
-slice-aggregate-put c = search needs
-
-put-requires : tie.Need-put-requires
-put-requires c κs = search needs
-
-same-length : tie.Need-same-length
-same-length c = search needs
-
 returns : tie.Need-returns
 returns c =
     let p = c .before .before in
     let a = c .before .before .before .before .before .before .before .args in
     let e : true ≡ a .exact = sym (c .before .before .before .before .before .if1 .taken) in
     (p .put .ensures .0 ∙ ap (λ (b : Bool). lengthIn (roundedText b ++ newline) (a .room .now)) e, p .put .ensures .1 ∙ ap (λ (b : Bool). over (roundedText b ++ newline) (a .room .now)) e)
-
-slice-aggregate-put-2 : tie.Need-slice-aggregate-put-2
-slice-aggregate-put-2 c = search needs
-
-put-requires-2 : tie.Need-put-requires-2
-put-requires-2 c κs = search needs
-
-same-length-2 : tie.Need-same-length-2
-same-length-2 c = search needs
 
 returns-2 : tie.Need-returns-2
 returns-2 c =
@@ -44,11 +26,11 @@ pub put-end-spec : {M : Type 1} → statement M
 put-end-spec =
     tie.close
     (tie.spec
-    slice-aggregate-put
-    put-requires
-    same-length
+    (λ c. search needs)
+    (λ c κs. search needs)
+    (λ c. search needs)
     returns
-    slice-aggregate-put-2
-    put-requires-2
-    same-length-2
+    (λ c. search needs)
+    (λ c κs. search needs)
+    (λ c. search needs)
     returns-2)

@@ -70,18 +70,6 @@ module _ (k : tie.After-n) where
       let l = ap length (filled-is writing) ∙ length-append (iso writing) (drop (length (iso writing)) (room writing)) in
       omega arith
 
-write-iso-requires : tie.Need-write-iso-requires
-write-iso-requires c κs = search needs
-
-enum-known-n : tie.Need-enum-known-n
-enum-known-n c = search needs
-
-enum-told : tie.Need-enum-told
-enum-told c = search needs
-
-same-length : tie.Need-same-length
-same-length c = search needs
-
 returns : tie.Need-returns
 returns c =
     let x = answered (c .before .before .before .before) in
@@ -93,12 +81,6 @@ sub-put-end c = inside (c .before)
 
 part-put-end-start : tie.Need-part-put-end-start
 part-put-end-start c = inside (c .before)
-
-part-put-end-end : tie.Need-part-put-end-end
-part-put-end-end c = search needs
-
-put-end-requires : tie.Need-put-end-requires
-put-end-requires c κs = search needs
 
 sum : (p : tie.After-put-end) → let k = p .before .before .before in k .n .given .0 .0 + p .put-end .result ≡ length (iso (writing k) ++ end (writing k))
 sum p =
@@ -112,9 +94,6 @@ add-result c =
     let s = sum p in
     let b = both (writing (p .before .before .before)) in
     record { fits = omega arith }
-
-same-length-2 : tie.Need-same-length-2
-same-length-2 c = search needs
 
 returns-2 : tie.Need-returns-2
 returns-2 c =
@@ -130,15 +109,15 @@ pub put-instant-spec : {M : Type 1} → statement M
 put-instant-spec =
     tie.close
     (tie.spec
-    write-iso-requires
-    enum-known-n
-    enum-told
-    same-length
+    (λ c κs. search needs)
+    (λ c. search needs)
+    (λ c. search needs)
+    (λ c. search needs)
     returns
     sub-put-end
     part-put-end-start
-    part-put-end-end
-    put-end-requires
+    (λ c. search needs)
+    (λ c κs. search needs)
     add-result
-    same-length-2
+    (λ c. search needs)
     returns-2)

@@ -42,28 +42,10 @@ module _ (p : tie.After-put-instant) where
   made-is : made ≡ over text (replicate 37 0)
   made-is = p .put-instant .ensures .1 ∙ ap (λ (t : List ℕ). over t (replicate 37 0)) same
 
-slice-aggregate-put-instant : tie.Need-slice-aggregate-put-instant
-slice-aggregate-put-instant c = search needs
-
-put-instant-requires : tie.Need-put-instant-requires
-put-instant-requires c κs = search needs
-
-sub-put : tie.Need-sub-put
-sub-put c = search needs
-
-part-put-start : tie.Need-part-put-start
-part-put-start c = search needs
-
 part-put-end : tie.Need-part-put-end
 part-put-end c =
     let p = c .before .before in
     reaches (text p) (replicate 37 0) (made p) (p .put-instant .result) (count p) (made-is p) (short p)
-
-put-requires : tie.Need-put-requires
-put-requires c κs = search needs
-
-same-length : tie.Need-same-length
-same-length c = search needs
 
 returns : tie.Need-returns
 returns c =
@@ -76,11 +58,11 @@ pub put-shown-spec : {M : Type 1} → statement M
 put-shown-spec =
     tie.close
     (tie.spec
-    slice-aggregate-put-instant
-    put-instant-requires
-    sub-put
-    part-put-start
+    (λ c. search needs)
+    (λ c κs. search needs)
+    (λ c. search needs)
+    (λ c. search needs)
     part-put-end
-    put-requires
-    same-length
+    (λ c κs. search needs)
+    (λ c. search needs)
     returns)

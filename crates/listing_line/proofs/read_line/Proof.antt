@@ -21,15 +21,6 @@ returns c = long-line (c .before .before .args .line .now) (c .if1 .taken)
 places : (c : tie.After-a) → let k = c .a .given .0 in Places (c .before .before .before .before .before .args .line .now) (k .0) (k .1 .0)
 places c = let d = c .before .before in subst (BarsOf (d .before .before .before .args .line .now)) (c .a .given .1) (d .bars-of .ensures)
 
-bars-of-requires : tie.Need-bars-of-requires
-bars-of-requires c κs = search needs
-
-enum-known-a : tie.Need-enum-known-a
-enum-known-a c = search needs
-
-enum-told : tie.Need-enum-told
-enum-told c = search needs
-
 returns-2 : tie.Need-returns-2
 returns-2 c =
     let d = c .before .before in
@@ -48,18 +39,6 @@ sub-read-offset c = let p = places (c .before) in omega arith
 part-read-offset-start : tie.Need-part-read-offset-start
 part-read-offset-start c = let p = places (c .before) in search needs
 
-part-read-offset-end : tie.Need-part-read-offset-end
-part-read-offset-end c = search needs
-
-read-offset-requires : tie.Need-read-offset-requires
-read-offset-requires c κs = search needs
-
-enum-known-offset : tie.Need-enum-known-offset
-enum-known-offset c = search needs
-
-enum-told-2 : tie.Need-enum-told-2
-enum-told-2 c = search needs
-
 -- the answer, by what the text of the offset is
 settled : (d : tie.After-read-offset) (o : OffsetText) → d .read-offset .result ≡ o
     → let p = d .before .before .before in let s = p .before .before .before .before .before .args .line .now in let k = p .a .given .0 in
@@ -76,12 +55,6 @@ returns-3 c =
     let d = c .before .before in
     settled d _ (c .enum-told2 .given .1)
 
-sub-read-parts : tie.Need-sub-read-parts
-sub-read-parts c = search needs
-
-part-read-parts-start : tie.Need-part-read-parts-start
-part-read-parts-start c = search needs
-
 part-read-parts-end : tie.Need-part-read-parts-end
 part-read-parts-end c = let p = places (c .before .before .before .before .before .before) in search needs
 
@@ -94,9 +67,6 @@ part-read-parts-start-2 c = let p = places (c .before .before .before .before .b
 part-read-parts-end-2 : tie.Need-part-read-parts-end-2
 part-read-parts-end-2 c = let p = places (c .before .before .before .before .before .before .before) in search needs
 
-read-parts-requires : tie.Need-read-parts-requires
-read-parts-requires c κs = search needs
-
 returns-4 : tie.Need-returns-4
 returns-4 c =
     let o = c .before .before .before .before in
@@ -107,24 +77,24 @@ read-line-spec =
     tie.close
     (tie.spec
     returns
-    bars-of-requires
-    enum-known-a
-    enum-told
+    (λ c κs. search needs)
+    (λ c. search needs)
+    (λ c. search needs)
     returns-2
     add-units
     add-offset
     sub-read-offset
     part-read-offset-start
-    part-read-offset-end
-    read-offset-requires
-    enum-known-offset
-    enum-told-2
+    (λ c. search needs)
+    (λ c κs. search needs)
+    (λ c. search needs)
+    (λ c. search needs)
     returns-3
-    sub-read-parts
-    part-read-parts-start
+    (λ c. search needs)
+    (λ c. search needs)
     part-read-parts-end
     sub-read-parts-2
     part-read-parts-start-2
     part-read-parts-end-2
-    read-parts-requires
+    (λ c κs. search needs)
     returns-4)

@@ -14,15 +14,6 @@ calendar k = named-back (calendarOf (k .before .before .before .before .args .na
 returns : tie.Need-returns
 returns c = let a = c .before .before .before .args in text-long (a .name .now) (a .text .now) (c .if1 .taken)
 
-calendar-of-requires : tie.Need-calendar-of-requires
-calendar-of-requires c κs = search needs
-
-enum-known-c : tie.Need-enum-known-c
-enum-known-c c = search needs
-
-enum-told : tie.Need-enum-told
-enum-told c = search needs
-
 returns-2 : tie.Need-returns-2
 returns-2 c =
     let k = c .before .before in
@@ -38,4 +29,11 @@ returns-3 c =
 
 pub text-calendar-spec : {M : Type 1} → statement M
 text-calendar-spec =
-    tie.close (tie.spec returns calendar-of-requires enum-known-c enum-told returns-2 returns-3)
+    tie.close
+    (tie.spec
+    returns
+    (λ c κs. search needs)
+    (λ c. search needs)
+    (λ c. search needs)
+    returns-2
+    returns-3)

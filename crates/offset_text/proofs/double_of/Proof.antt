@@ -31,8 +31,10 @@ float-from-bits-result c =
     let e : nanBits binary64 n ≡ false = nanBits-above binary64 n ∙ le-ltb _ _ (c .if1 .left) in
     rw e tt
 
-returns-2 : tie.Need-returns-2
-returns-2 c = search needs
-
 pub double-of-spec : {M : Type 1} → statement M
-double-of-spec = tie.close (tie.spec returns float-from-bits-result returns-2)
+double-of-spec =
+    tie.close
+    (tie.spec
+    returns
+    float-from-bits-result
+    (λ c. search needs))

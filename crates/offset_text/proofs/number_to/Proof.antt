@@ -24,9 +24,6 @@ loop-holds c = (omega arith, omega (arith, pow-zero (c .before .args .base)), re
 shared-slice-read-digit-of : tie.Need-shared-slice-read-digit-of Inv-loop μ-loop
 shared-slice-read-digit-of c = omega arith
 
-digit-of-requires : tie.Need-digit-of-requires Inv-loop μ-loop
-digit-of-requires c κs = search needs
-
 returns : tie.Need-returns Inv-loop μ-loop
 returns c =
     let l = c .before .before .before .before .loop in
@@ -82,7 +79,7 @@ number-to-spec =
     μ-loop
     loop-holds
     shared-slice-read-digit-of
-    digit-of-requires
+    (λ c κs. search needs)
     returns
     mul-v
     add-v

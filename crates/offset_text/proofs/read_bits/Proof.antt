@@ -21,19 +21,10 @@ number-to-requires c κs =
     let p : 16 ^ length (c .before .before .args .s .now) ≡ 16 ^ 16 = ap (_^_ 16) (c .if1 .left) in
     ((omega arith, omega arith), omega arith)
 
-enum-known-n : tie.Need-enum-known-n
-enum-known-n c = search needs
-
-enum-told : tie.Need-enum-told
-enum-told c = search needs
-
 returns-2 : tie.Need-returns-2
 returns-2 c =
     let d = c .before .before in
     sym (ap offsetAnswer (bits-read _ (d .before .before .before .args .s .now) (d .before .if1 .left) (d .number-to .ensures ∙ ap digitsIn (c .enum-told .given .1))))
-
-double-of-requires : tie.Need-double-of-requires
-double-of-requires c κs = search needs
 
 returns-3 : tie.Need-returns-3
 returns-3 c =
@@ -48,8 +39,8 @@ read-bits-spec =
     (tie.spec
     returns
     number-to-requires
-    enum-known-n
-    enum-told
+    (λ c. search needs)
+    (λ c. search needs)
     returns-2
-    double-of-requires
+    (λ c κs. search needs)
     returns-3)

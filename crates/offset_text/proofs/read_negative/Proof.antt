@@ -21,15 +21,6 @@ use Rattle.offset_text.proofs.read_negative.Tie as tie
 found : (d : tie.After-decimal-of) {r : Number} → d .decimal-of .result ≡ r → read (number 19) (d .before .before .args .s .now) ≡ digitsIn r
 found d e = d .decimal-of .ensures ∙ ap digitsIn e
 
-decimal-of-requires : tie.Need-decimal-of-requires
-decimal-of-requires c κs = search needs
-
-enum-known-n : tie.Need-enum-known-n
-enum-known-n c = search needs
-
-enum-told : tie.Need-enum-told
-enum-told c = search needs
-
 returns : tie.Need-returns
 returns c =
     let d = c .before .before in
@@ -40,9 +31,6 @@ returns-2 c =
     let k = c .before .before in
     let d = k .before .before in
     sym (ap offsetAnswer (whole-large _ _ (d .before .before .args .s .now) _ (found d (k .n .given .1)) (c .if1 .taken)))
-
-unbiased-requires : tie.Need-unbiased-requires
-unbiased-requires c κs = search needs
 
 returns-3 : tie.Need-returns-3
 returns-3 c =
@@ -57,10 +45,10 @@ pub read-negative-spec : {M : Type 1} → statement M
 read-negative-spec =
     tie.close
     (tie.spec
-    decimal-of-requires
-    enum-known-n
-    enum-told
+    (λ c κs. search needs)
+    (λ c. search needs)
+    (λ c. search needs)
     returns
     returns-2
-    unbiased-requires
+    (λ c κs. search needs)
     returns-3)

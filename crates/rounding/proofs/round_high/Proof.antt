@@ -8,18 +8,6 @@ use Rattle.rounding.proofs.HighShift.{rest-fits, count-fits, rounded}
 use Rattle.rounding.proofs.round_high.Statement.{statement}
 use Rattle.rounding.proofs.round_high.Tie as tie
 
-shr-whole : tie.Need-shr-whole
-shr-whole c = search needs
-
-sub-rest : tie.Need-sub-rest
-sub-rest c = search needs
-
-shl-rest : tie.Need-shl-rest
-shl-rest c = search needs
-
-sticky-requires : tie.Need-sticky-requires
-sticky-requires c κs = search needs
-
 -- the rest, by what the two calls promise
 module _ (c : tie.After-sticky) where
   abbrev a : tie.Start
@@ -37,9 +25,6 @@ more-is c = c .increment .ensures ∙ ap (λ (n : ℕ). incrementOf n (a (c .bef
 add-rest : tie.Need-add-rest
 add-rest c = record { fits = subst (λ (n : ℕ). n < 2 ^ 64) (sym (rest-is c)) (rest-fits (a c .args .high) (a c .args .low) (a c .args .shift) (a c .pre .0) (a c .pre .1)) }
 
-increment-requires : tie.Need-increment-requires
-increment-requires c κs = search needs
-
 add-t9 : tie.Need-add-t9
 add-t9 c =
     let s = a (c .before) in
@@ -55,11 +40,11 @@ pub round-high-spec : {M : Type 1} → statement M
 round-high-spec =
     tie.close
     (tie.spec
-    shr-whole
-    sub-rest
-    shl-rest
-    sticky-requires
+    (λ c. search needs)
+    (λ c. search needs)
+    (λ c. search needs)
+    (λ c κs. search needs)
     add-rest
-    increment-requires
+    (λ c κs. search needs)
     add-t9
     returns)

@@ -19,9 +19,6 @@ below c = negative (c .before .args .n) (c .before .fits .n) (c .if1 .taken)
 above : (c : tie.Else1) → Positive (c .before .args .n)
 above c = positive (c .before .args .n) (c .before .fits .n) (c .if1 .left)
 
-sub-result : tie.Need-sub-result
-sub-result c = search needs
-
 sub-result-2 : tie.Need-sub-result-2
 sub-result-2 c = below c .fits
 
@@ -47,7 +44,7 @@ pub biased-spec : {M : Type 1} → statement M
 biased-spec =
     tie.close
     (tie.spec
-    sub-result
+    (λ c. search needs)
     sub-result-2
     cast-result
     sub-result-3

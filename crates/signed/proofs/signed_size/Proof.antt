@@ -1,9 +1,7 @@
 -- `signed::signed_size` meets its contract.
-use mathlib.Core.Path.{_≡_, sym, ap, _∙_}
+use mathlib.Core.Path.{sym, ap, _∙_}
 use mathlib.Core.Bool.{Bool}
-use Prim.Native.Nat.{ℕ, _+_}
 use native.Mathlib.Omega.{arith}
-use lib.IntN.{pos}
 use mir.Syntax.{w64}
 use mir.ValLaws.{toZ-ofZ}
 use Rattle.signed.specs.Sign.{withSign}
@@ -11,18 +9,6 @@ use Rattle.signed.proofs.Signs.{signed-minus, signed-plus}
 use borrow.Author.Needs.{needs}
 use Rattle.signed.proofs.signed_size.Statement.{statement}
 use Rattle.signed.proofs.signed_size.Tie as tie
-
-sub-unbiased : tie.Need-sub-unbiased
-sub-unbiased c = search needs
-
-unbiased-requires : tie.Need-unbiased-requires
-unbiased-requires c κs = search needs
-
-add-unbiased : tie.Need-add-unbiased
-add-unbiased c = search needs
-
-unbiased-requires-2 : tie.Need-unbiased-requires-2
-unbiased-requires-2 c κs = search needs
 
 returns : tie.Need-returns
 returns c =
@@ -40,4 +26,10 @@ returns-2 c =
 pub signed-size-spec : {M : Type 1} → statement M
 signed-size-spec =
     tie.close
-    (tie.spec sub-unbiased unbiased-requires add-unbiased unbiased-requires-2 returns returns-2)
+    (tie.spec
+    (λ c. search needs)
+    (λ c κs. search needs)
+    (λ c. search needs)
+    (λ c κs. search needs)
+    returns
+    returns-2)

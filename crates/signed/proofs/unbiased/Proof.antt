@@ -11,15 +11,6 @@ use Rattle.signed.proofs.Machine.{below-fits, below-read}
 use Rattle.signed.proofs.unbiased.Statement.{statement}
 use Rattle.signed.proofs.unbiased.Tie as tie
 
-sub-result : tie.Need-sub-result
-sub-result c = search needs
-
-sub-result-2 : tie.Need-sub-result-2
-sub-result-2 c = search needs
-
-cast-result : tie.Need-cast-result
-cast-result c = search needs
-
 sub-result-3 : tie.Need-sub-result-3
 sub-result-3 c = below-fits (9223372036854775807 - c .before .args .k) (omega arith)
 
@@ -27,9 +18,6 @@ returns : tie.Need-returns
 returns c =
     let k = c .before .args .k in
     below-read (9223372036854775807 - k) (omega arith) ∙ (ap negsuc (omega arith) ∙ sym (sub-low k 9223372036854775808 (omega arith)))
-
-cast-result-2 : tie.Need-cast-result-2
-cast-result-2 c = search needs
 
 returns-2 : tie.Need-returns-2
 returns-2 c =
@@ -39,4 +27,11 @@ returns-2 c =
 pub unbiased-spec : {M : Type 1} → statement M
 unbiased-spec =
     tie.close
-    (tie.spec sub-result sub-result-2 cast-result sub-result-3 returns cast-result-2 returns-2)
+    (tie.spec
+    (λ c. search needs)
+    (λ c. search needs)
+    (λ c. search needs)
+    sub-result-3
+    returns
+    (λ c. search needs)
+    returns-2)

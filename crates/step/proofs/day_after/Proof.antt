@@ -60,9 +60,6 @@ module _ (m : tie.After-month-after) where
 month-count-requires : tie.Need-month-count-requires
 month-count-requires c κs = month-inside (c .args .c) (c .args .x) (c .args .y) (c .pre .0)
 
-biased-requires : tie.Need-biased-requires
-biased-requires c κs = search needs
-
 month-after-requires : tie.Need-month-after-requires
 month-after-requires c κs =
     let s = start c in
@@ -86,7 +83,7 @@ day-after-spec =
     tie.close
     (tie.spec
     month-count-requires
-    biased-requires
+    (λ c κs. search needs)
     month-after-requires
     sub-day-in
     day-in-requires

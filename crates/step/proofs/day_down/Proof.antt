@@ -18,9 +18,6 @@ abbrev μ-loop : tie.MeasureT-loop
 loop-holds : tie.Need-loop-holds Inv-loop μ-loop
 loop-holds c = refl
 
-exists-in-year-requires : tie.Need-exists-in-year-requires Inv-loop μ-loop
-exists-in-year-requires c κs = search needs
-
 returns : tie.Need-returns Inv-loop μ-loop
 returns c =
     let l = c .before .before .before in
@@ -54,7 +51,7 @@ day-down-spec =
     Inv-loop
     μ-loop
     loop-holds
-    exists-in-year-requires
+    (λ c κs. search needs)
     returns
     sub-d
     loop-less

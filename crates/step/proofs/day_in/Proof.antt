@@ -16,15 +16,6 @@ use Rattle.step.proofs.day_in.Tie as tie
 found : (d : tie.After-day-down) → let a = d .before .args in date (yearAt (hasYearZero (a .c)) (a .i / 12)) (a .i % 12 + 1) (d .day-down .result) ≡ dateDown (a .c) (monthAt (a .c) (a .i)) (a .day)
 found d = let a = d .before .args in ap (date (yearAt (hasYearZero (a .c)) (a .i / 12)) (a .i % 12 + 1)) (d .day-down .ensures)
 
-add-month : tie.Need-add-month
-add-month c = search needs
-
-cast-month : tie.Need-cast-month
-cast-month c = search needs
-
-day-down-requires : tie.Need-day-down-requires
-day-down-requires c κs = search needs
-
 day-in-year-requires : tie.Need-day-in-year-requires
 day-in-year-requires c κs =
     let s = c .before in
@@ -37,4 +28,10 @@ returns c =
 
 pub day-in-spec : {M : Type 1} → statement M
 day-in-spec =
-    tie.close (tie.spec add-month cast-month day-down-requires day-in-year-requires returns)
+    tie.close
+    (tie.spec
+    (λ c. search needs)
+    (λ c. search needs)
+    (λ c κs. search needs)
+    day-in-year-requires
+    returns)

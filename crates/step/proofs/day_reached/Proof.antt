@@ -87,20 +87,11 @@ module _ (e : tie.Else4) where
       ∙ year-between (s found .args .c) (s found .args .x) (s found .args .y) (s found .pre) (s found .args .part) (steps found) 240000
       (omega (arith, reached found, e .before .before .first-year .ensures .0, e .before .if3 .left)) (omega (arith, reached found, e .if4 .left))
 
-biased-requires : tie.Need-biased-requires
-biased-requires c κs = search needs
-
-sub-if1 : tie.Need-sub-if1
-sub-if1 c = search needs
-
 returns : tie.Need-returns
 returns c =
     let b = c .before in
     let s = start b in
     past b (unbiased (k b)) refl (year-before (s .args .c) (s .args .x) (s .args .y) (s .pre) (s .args .part) (k b) 9223372036854775808 (omega (arith, far-below (s .args .part) (count b) (k b) (small b) (c .if1 .taken))))
-
-add-if2 : tie.Need-add-if2
-add-if2 c = search needs
 
 returns-2 : tie.Need-returns-2
 returns-2 c =
@@ -116,15 +107,6 @@ month-after-requires c κs =
     let e = c .before in
     (omega (arith, c .month-count .ensures, small (e .before .before)), (e .before .if1 .left, e .if2 .left))
 
-first-year-requires : tie.Need-first-year-requires
-first-year-requires c κs = search needs
-
-mul-if3 : tie.Need-mul-if3
-mul-if3 c = search needs
-
-add-if3 : tie.Need-add-if3
-add-if3 c = search needs
-
 returns-3 : tie.Need-returns-3
 returns-3 c =
     let f = c .before in
@@ -132,17 +114,11 @@ returns-3 c =
     past (at m) (subℕ (steps m) 240000) (steps-is m)
     (year-before (s m .args .c) (s m .args .x) (s m .args .y) (s m .pre) (s m .args .part) (steps m) 240000 (omega (arith, reached m, f .first-year .ensures .0, c .if3 .taken)))
 
-add-if4 : tie.Need-add-if4
-add-if4 c = search needs
-
 returns-4 : tie.Need-returns-4
 returns-4 c =
     let m = c .before .before .before in
     past (at m) (subℕ (steps m) 240000) (steps-is m)
     (year-past (s m .args .c) (s m .args .x) (s m .args .y) (s m .pre) (s m .args .part) (steps m) 240000 (omega (arith, reached m, c .if4 .taken)))
-
-sub-day-in : tie.Need-sub-day-in
-sub-day-in c = search needs
 
 day-in-requires : tie.Need-day-in-requires
 day-in-requires c κs = (omega (arith, c .if4 .left), ap (exists (s (found c) .args .c)) (date-is c) ∙ there c)
@@ -157,19 +133,19 @@ pub day-reached-spec : {M : Type 1} → statement M
 day-reached-spec =
     tie.close
     (tie.spec
-    biased-requires
-    sub-if1
+    (λ c κs. search needs)
+    (λ c. search needs)
     returns
-    add-if2
+    (λ c. search needs)
     returns-2
     month-count-requires
     month-after-requires
-    first-year-requires
-    mul-if3
-    add-if3
+    (λ c κs. search needs)
+    (λ c. search needs)
+    (λ c. search needs)
     returns-3
-    add-if4
+    (λ c. search needs)
     returns-4
-    sub-day-in
+    (λ c. search needs)
     day-in-requires
     returns-5)

@@ -9,19 +9,16 @@ use borrow.Author.Needs.{needs}
 use Rattle.step.proofs.difference.Statement.{statement}
 use Rattle.step.proofs.difference.Tie as tie
 
-sub-unbiased : tie.Need-sub-unbiased
-sub-unbiased c = search needs
-
-add-unbiased : tie.Need-add-unbiased
-add-unbiased c = search needs
-
-unbiased-requires : tie.Need-unbiased-requires
-unbiased-requires c κs = search needs
-
 returns : tie.Need-returns
 returns c =
     let a = c .before .args in
     toZ-ofZ w64 (c .unbiased .result) (record { sfits = c .unbiased .ok }) ∙ (c .unbiased .ensures ∙ same-diff (a .b + (9223372036854775808 - a .a)) 9223372036854775808 (a .b) (a .a) (omega (arith, c .before .pre)))
 
 pub difference-spec : {M : Type 1} → statement M
-difference-spec = tie.close (tie.spec sub-unbiased add-unbiased unbiased-requires returns)
+difference-spec =
+    tie.close
+    (tie.spec
+    (λ c. search needs)
+    (λ c. search needs)
+    (λ c κs. search needs)
+    returns)

@@ -25,23 +25,11 @@ module _ (c : tie.After-months-of) where
   small : steps * c .months-of .result ≤ 5760000
   small = omega (arith, product, few (c .before .args .part) steps, c .before .pre)
 
-months-of-requires : tie.Need-months-of-requires
-months-of-requires c κs = search needs
-
 mul-result : tie.Need-mul-result
 mul-result c = record { fits = omega (arith, few-months c) }
 
 sub-result : tie.Need-sub-result
 sub-result c = omega (arith, few-months c)
-
-add-result : tie.Need-add-result
-add-result c = search needs
-
-sub-result-2 : tie.Need-sub-result-2
-sub-result-2 c = search needs
-
-sub-result-3 : tie.Need-sub-result-3
-sub-result-3 c = search needs
 
 mul-result-2 : tie.Need-mul-result-2
 mul-result-2 c = record { fits = omega (arith, small c) }
@@ -56,12 +44,12 @@ pub month-after-spec : {M : Type 1} → statement M
 month-after-spec =
     tie.close
     (tie.spec
-    months-of-requires
+    (λ c κs. search needs)
     mul-result
     sub-result
-    add-result
-    sub-result-2
-    sub-result-3
+    (λ c. search needs)
+    (λ c. search needs)
+    (λ c. search needs)
     mul-result-2
     add-result-2
     returns)

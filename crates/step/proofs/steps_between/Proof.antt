@@ -21,17 +21,11 @@ module _ (a : tie.After-day-down) where
   day-is : a .day-down .result ≡ downTo (start .args .c) (start .args .d .year) (start .args .d .month) (start .args .x .day)
   day-is = a .day-down .ensures ∙ ap (λ (u : ℤ). downTo (start .args .c) u (start .args .d .month) (start .args .x .day)) (start .pre .1 .is)
 
-day-down-requires : tie.Need-day-down-requires
-day-down-requires c κs = search needs
-
 returns : tie.Need-returns
 returns c =
     let a = c .before .before in
     let s = start a .args in
     none (s .part) (s .c) (s .x) (s .d) (other-day (s .part) (s .c) (s .x) (s .d) (λ e. c .if1 .taken (day-is a ∙ e)))
-
-enum-told : tie.Need-enum-told
-enum-told c = search needs
 
 month-count-requires : tie.Need-month-count-requires
 month-count-requires c κs =
@@ -60,9 +54,6 @@ returns-2 c =
     ∙ (found-between Part.Month (s .c) (s .x) (s .d) (s .y) (s .w) (start a .pre .0) (start a .pre .1) (monthCount (s .w) (s .d .month)) (monthCount (s .y) (s .x .month)) (omega arith) (sym (day-is a) ∙ l .if1 .left)
     ∙ ap (λ (p : Part). stepsBetween p (s .c) (s .x) (s .d)) (sym (e .enum-told .given .1)))
 
-enum-told-2 : tie.Need-enum-told-2
-enum-told-2 c = search needs
-
 returns-3 : tie.Need-returns-3
 returns-3 c =
     let e = c .before .before .before in
@@ -90,14 +81,14 @@ pub steps-between-spec : {M : Type 1} → statement M
 steps-between-spec =
     tie.close
     (tie.spec
-    day-down-requires
+    (λ c κs. search needs)
     returns
-    enum-told
+    (λ c. search needs)
     month-count-requires
     month-count-requires-2
     difference-requires
     returns-2
-    enum-told-2
+    (λ c. search needs)
     returns-3
     difference-requires-2
     returns-4)

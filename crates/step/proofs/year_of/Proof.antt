@@ -27,29 +27,17 @@ module _ (b : tie.After-biased) where
 told : (n : tie.After-year-count) (r : YearCount) → n .year-count .result ≡ r → Counted (n .before .before .before .has-year-zero .result) (unbiased (n .before .biased .result)) r
 told n r e = subst (Counted (n .before .before .before .has-year-zero .result) (unbiased (n .before .biased .result))) e (n .year-count .ensures)
 
-has-year-zero-requires : tie.Need-has-year-zero-requires
-has-year-zero-requires c κs = search needs
-
-biased-requires : tie.Need-biased-requires
-biased-requires c κs = search needs
-
 year-count-requires : tie.Need-year-count-requires
 year-count-requires c κs =
     let k = c .biased .result in
     let w = and-parts (leb 9223372036854765809 k) (leb k 9223372036854785807) (sym (year-biased k) ∙ (ap inYears (year-is c) ∙ start c .pre .inside)) in
     (leb-true 9223372036854765809 k (w .0), leb-true k 9223372036854785807 (w .1))
 
-enum-known-y : tie.Need-enum-known-y
-enum-known-y c = search needs
-
 returns : tie.Need-returns
 returns c =
     let n = c .before .before .before in
     let y = c .before .y .given .0 .0 in
     record { date = start (n .before) .pre; is = ap (λ (t : Bool). yearAt t y) (sym (n .before .before .before .has-year-zero .ensures)) ∙ (told n (YearCount.Is y) (c .before .y .given .1) ∙ year-is (n .before)) }
-
-enum-told : tie.Need-enum-told
-enum-told c = search needs
 
 returns-2 : tie.Need-returns-2
 returns-2 c =
@@ -62,10 +50,10 @@ pub year-of-spec : {M : Type 1} → statement M
 year-of-spec =
     tie.close
     (tie.spec
-    has-year-zero-requires
-    biased-requires
+    (λ c κs. search needs)
+    (λ c κs. search needs)
     year-count-requires
-    enum-known-y
+    (λ c. search needs)
     returns
-    enum-told
+    (λ c. search needs)
     returns-2)

@@ -17,21 +17,9 @@ use Rattle.units_text.proofs.mode_at.Tie as tie
 yes : (c : tie.Then1) → starts (either 67) (drop (c .before .before .before .args .at) (c .before .before .before .args .s .now)) ≡ true
 yes c = sym (c .before .letter-at .ensures) ∙ c .if1 .taken
 
-letter-at-requires : tie.Need-letter-at-requires
-letter-at-requires c κs = search needs
-
-slice-aggregate-word-at : tie.Need-slice-aggregate-word-at
-slice-aggregate-word-at c = search needs
-
 word-at-requires : tie.Need-word-at-requires
 unfolding every within inside
 word-at-requires c κs = refl
-
-enum-known-b : tie.Need-enum-known-b
-enum-known-b c = search needs
-
-enum-told : tie.Need-enum-told
-enum-told c = search needs
 
 returns : tie.Need-returns
 returns c =
@@ -48,15 +36,6 @@ named g o e =
     let w = b .before .before in
     mode-is _ (yes (w .before .before)) _ _ (w .word-at .ensures ∙ ap (endIn _) (b .b .given .1)) (g .spaces-at .ensures ∙ ap (endIn _) e)
 
-spaces-at-requires : tie.Need-spaces-at-requires
-spaces-at-requires c κs = search needs
-
-enum-known-e : tie.Need-enum-known-e
-enum-known-e c = search needs
-
-enum-told-2 : tie.Need-enum-told-2
-enum-told-2 c = search needs
-
 returns-2 : tie.Need-returns-2
 returns-2 c = named (c .before .before) _ (c .enum-told2 .given .1)
 
@@ -70,15 +49,15 @@ pub mode-at-spec : {M : Type 1} → statement M
 mode-at-spec =
     tie.close
     (tie.spec
-    letter-at-requires
-    slice-aggregate-word-at
+    (λ c κs. search needs)
+    (λ c. search needs)
     word-at-requires
-    enum-known-b
-    enum-told
+    (λ c. search needs)
+    (λ c. search needs)
     returns
-    spaces-at-requires
-    enum-known-e
-    enum-told-2
+    (λ c κs. search needs)
+    (λ c. search needs)
+    (λ c. search needs)
     returns-2
     returns-3
     returns-4)

@@ -32,38 +32,17 @@ meant d o e =
     run-is _ _ _ (drop (a .at) (a .s .now)) _ (ap (starts (anyOf (bytes "dhmswy"))) (sym (letters r)) ∙ sym (t .before .starts-in .ensures) ∙ t .if2 .taken)
     (ap (lookup periodWords) (sym (letters r)) ∙ d .period-of .ensures ∙ ap meaningOf e)
 
-run-end-requires : tie.Need-run-end-requires
-run-end-requires c κs = search needs
-
 returns : tie.Need-returns
 returns c = let a = c .before .before .before .args in run-empty _ _ _ (drop (a .at) (a .s .now)) (omega arith)
 
-sub-d : tie.Need-sub-d
-sub-d c = search needs
-
-part-d-start : tie.Need-part-d-start
-part-d-start c = search needs
-
 part-d-end : tie.Need-part-d-end
 part-d-end c = let a = c .before .before .before .args in run-end (span 97 122) (a .s .now) (a .at) (c .before .run-end .result) (c .before .run-end .ensures) (c .if1 .left)
-
-slice-aggregate-starts-in : tie.Need-slice-aggregate-starts-in
-slice-aggregate-starts-in c = search needs
-
-starts-in-requires : tie.Need-starts-in-requires
-starts-in-requires c κs = search needs
 
 period-of-requires : tie.Need-period-of-requires
 period-of-requires c κs =
     let r = c .before .before .before .before .before in
     let a = r .before .before .args in
     (omega (arith, ap length (letters r)), rw (letters r) (front-every (span 97 122) (drop (a .at) (a .s .now))))
-
-enum-known-p : tie.Need-enum-known-p
-enum-known-p c = search needs
-
-enum-told : tie.Need-enum-told
-enum-told c = search needs
 
 returns-2 : tie.Need-returns-2
 returns-2 c = meant (c .before .before) _ (c .enum-told .given .1)
@@ -85,16 +64,16 @@ pub period-at-spec : {M : Type 1} → statement M
 period-at-spec =
     tie.close
     (tie.spec
-    run-end-requires
+    (λ c κs. search needs)
     returns
-    sub-d
-    part-d-start
+    (λ c. search needs)
+    (λ c. search needs)
     part-d-end
-    slice-aggregate-starts-in
-    starts-in-requires
+    (λ c. search needs)
+    (λ c κs. search needs)
     period-of-requires
-    enum-known-p
-    enum-told
+    (λ c. search needs)
+    (λ c. search needs)
     returns-2
     returns-3
     returns-4)

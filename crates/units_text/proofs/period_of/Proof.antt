@@ -14,12 +14,6 @@ use Rattle.units_text.proofs.Words.{period-packed, period-long}
 use Rattle.units_text.proofs.period_of.Statement.{statement}
 use Rattle.units_text.proofs.period_of.Tie as tie
 
-slice-aggregate-same-bytes : tie.Need-slice-aggregate-same-bytes
-slice-aggregate-same-bytes c = search needs
-
-same-bytes-requires : tie.Need-same-bytes-requires
-same-bytes-requires c κs = search needs
-
 returns : tie.Need-returns
 returns c = period-long (c .before .before .before .before .before .args .d .now) _ (c .before .before .before .if1 .taken) (sym (c .before .same-bytes .ensures) ∙ c .if2 .taken)
 
@@ -104,8 +98,8 @@ pub period-of-spec : {M : Type 1} → statement M
 period-of-spec =
     tie.close
     (tie.spec
-    slice-aggregate-same-bytes
-    same-bytes-requires
+    (λ c. search needs)
+    (λ c κs. search needs)
     returns
     returns-2
     packed-of-requires

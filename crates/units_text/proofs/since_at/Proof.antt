@@ -7,30 +7,12 @@ use Rattle.units_text.proofs.Steps.{since-no, since-word, since-gap, si
 use Rattle.units_text.proofs.since_at.Statement.{statement}
 use Rattle.units_text.proofs.since_at.Tie as tie
 
-spaces-at-requires : tie.Need-spaces-at-requires
-spaces-at-requires c κs = search needs
-
-enum-known-a : tie.Need-enum-known-a
-enum-known-a c = search needs
-
-enum-told : tie.Need-enum-told
-enum-told c = search needs
-
 returns : tie.Need-returns
 returns c = let g = c .before .before in since-no _ (g .spaces-at .ensures ∙ ap (endIn _) (c .enum-told .given .1))
-
-slice-aggregate-word-at : tie.Need-slice-aggregate-word-at
-slice-aggregate-word-at c = search needs
 
 word-at-requires : tie.Need-word-at-requires
 unfolding every within inside
 word-at-requires c κs = refl
-
-enum-known-b : tie.Need-enum-known-b
-enum-known-b c = search needs
-
-enum-told-2 : tie.Need-enum-told-2
-enum-told-2 c = search needs
 
 returns-2 : tie.Need-returns-2
 returns-2 c =
@@ -38,15 +20,6 @@ returns-2 c =
     let a = w .before .before .before in
     let g = a .before .before in
     since-word _ _ (g .spaces-at .ensures ∙ ap (endIn _) (a .a .given .1)) (w .word-at .ensures ∙ ap (endIn _) (c .enum-told2 .given .1))
-
-spaces-at-requires-2 : tie.Need-spaces-at-requires-2
-spaces-at-requires-2 c κs = search needs
-
-enum-known-e : tie.Need-enum-known-e
-enum-known-e c = search needs
-
-enum-told-3 : tie.Need-enum-told-3
-enum-told-3 c = search needs
 
 returns-3 : tie.Need-returns-3
 returns-3 c =
@@ -56,9 +29,6 @@ returns-3 c =
     let a = w .before .before .before in
     let g = a .before .before in
     since-gap _ _ (g .spaces-at .ensures ∙ ap (endIn _) (a .a .given .1)) _ (w .word-at .ensures ∙ ap (endIn _) (b .b .given .1)) (h .spaces-at2 .ensures ∙ ap (endIn _) (c .enum-told3 .given .1))
-
-date-at-requires : tie.Need-date-at-requires
-date-at-requires c κs = search needs
 
 returns-4 : tie.Need-returns-4
 returns-4 c =
@@ -75,18 +45,18 @@ pub since-at-spec : {M : Type 1} → statement M
 since-at-spec =
     tie.close
     (tie.spec
-    spaces-at-requires
-    enum-known-a
-    enum-told
+    (λ c κs. search needs)
+    (λ c. search needs)
+    (λ c. search needs)
     returns
-    slice-aggregate-word-at
+    (λ c. search needs)
     word-at-requires
-    enum-known-b
-    enum-told-2
+    (λ c. search needs)
+    (λ c. search needs)
     returns-2
-    spaces-at-requires-2
-    enum-known-e
-    enum-told-3
+    (λ c κs. search needs)
+    (λ c. search needs)
+    (λ c. search needs)
     returns-3
-    date-at-requires
+    (λ c κs. search needs)
     returns-4)

@@ -11,9 +11,6 @@ use Rattle.units_text.proofs.Steps.{spaces-is}
 use Rattle.units_text.proofs.spaces_at.Statement.{statement}
 use Rattle.units_text.proofs.spaces_at.Tie as tie
 
-run-end-requires : tie.Need-run-end-requires
-run-end-requires c κs = search needs
-
 returns : tie.Need-returns
 returns c = let a = c .before .before .before .args in run-empty _ _ _ (drop (a .at) (a .s .now)) (omega arith)
 
@@ -24,4 +21,9 @@ returns-2 c =
     spaces-is (drop (a .at) (a .s .now)) (omega arith) ∙ ap (found tt) (sym (run-left (span 32 32) (a .s .now) (a .at) e (c .before .run-end .ensures)))
 
 pub spaces-at-spec : {M : Type 1} → statement M
-spaces-at-spec = tie.close (tie.spec run-end-requires returns returns-2)
+spaces-at-spec =
+    tie.close
+    (tie.spec
+    (λ c κs. search needs)
+    returns
+    returns-2)

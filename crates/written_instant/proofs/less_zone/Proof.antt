@@ -23,21 +23,6 @@ returns c = let a = c .before .before .args in bad-hours (a .c) (a .z) (a .t) (c
 returns-2 : tie.Need-returns-2
 returns-2 c = let e = c .before .before in let a = e .before .before .args in bad-minutes (a .c) (a .z) (a .t) (e .if1 .left) (c .if2 .taken)
 
-cast-m : tie.Need-cast-m
-cast-m c = search needs
-
-mul-m : tie.Need-mul-m
-mul-m c = search needs
-
-cast-m-2 : tie.Need-cast-m-2
-cast-m-2 c = search needs
-
-add-m : tie.Need-add-m
-add-m c = search needs
-
-mul-m-2 : tie.Need-mul-m-2
-mul-m-2 c = search needs
-
 returns-3 : tie.Need-returns-3
 returns-3 c =
     let f = c .before .before .before in
@@ -53,17 +38,8 @@ raised b = let st = b .before .before .before .before .before .before .before .b
 close : (b : tie.After-biased) → (8646911284551352320 ≤ b .biased .result) × (b .biased .result < 9799832789158199296)
 close b = let st = b .before .before .before .before .before .before .before .before in near (st .args .c) (st .args .t) (b .biased .result) (raised b) (st .pre)
 
-biased-requires : tie.Need-biased-requires
-biased-requires c κs = search needs
-
 add-unbiased : tie.Need-add-unbiased
 add-unbiased c = record { fits = omega (arith, close (c .before) .1) }
-
-unbiased-requires : tie.Need-unbiased-requires
-unbiased-requires c κs = search needs
-
-ranged-instant-requires : tie.Need-ranged-instant-requires
-ranged-instant-requires c κs = search needs
 
 returns-4 : tie.Need-returns-4
 returns-4 c =
@@ -78,12 +54,6 @@ returns-4 c =
 
 sub-unbiased : tie.Need-sub-unbiased
 sub-unbiased c = omega (arith, close (c .before) .0)
-
-unbiased-requires-2 : tie.Need-unbiased-requires-2
-unbiased-requires-2 c κs = search needs
-
-ranged-instant-requires-2 : tie.Need-ranged-instant-requires-2
-ranged-instant-requires-2 c κs = search needs
 
 returns-5 : tie.Need-returns-5
 returns-5 c =
@@ -102,18 +72,18 @@ less-zone-spec =
     (tie.spec
     returns
     returns-2
-    cast-m
-    mul-m
-    cast-m-2
-    add-m
-    mul-m-2
+    (λ c. search needs)
+    (λ c. search needs)
+    (λ c. search needs)
+    (λ c. search needs)
+    (λ c. search needs)
     returns-3
-    biased-requires
+    (λ c κs. search needs)
     add-unbiased
-    unbiased-requires
-    ranged-instant-requires
+    (λ c κs. search needs)
+    (λ c κs. search needs)
     returns-4
     sub-unbiased
-    unbiased-requires-2
-    ranged-instant-requires-2
+    (λ c κs. search needs)
+    (λ c κs. search needs)
     returns-5)

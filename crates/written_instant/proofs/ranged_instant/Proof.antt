@@ -17,9 +17,6 @@ settled b e =
     let a = b .before in
     ap (λ (t : Bool). cond t (InstantAnswer.Is (a .args .t)) (InstantAnswer.Refused OutOfRange)) (sym e ∙ (b .in-range .ensures ∙ ap (inRange (a .args .c)) (toZ-ofZ w64 (a .args .t) (a .fits .t))))
 
-in-range-requires : tie.Need-in-range-requires
-in-range-requires c κs = search needs
-
 returns : tie.Need-returns
 returns c = let a = c .before .before in ap InstantAnswer.Is (toZ-ofZ w64 (a .args .t) (a .fits .t)) ∙ settled (c .before) (c .if1 .taken)
 
@@ -27,4 +24,9 @@ returns-2 : tie.Need-returns-2
 returns-2 c = settled (c .before) (c .if1 .left)
 
 pub ranged-instant-spec : {M : Type 1} → statement M
-ranged-instant-spec = tie.close (tie.spec in-range-requires returns returns-2)
+ranged-instant-spec =
+    tie.close
+    (tie.spec
+    (λ c κs. search needs)
+    returns
+    returns-2)

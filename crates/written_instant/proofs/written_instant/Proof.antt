@@ -19,24 +19,12 @@ answer i =
     let a = s .before .before .before .args in
     i .instant-of .ensures ∙ ap (λ (y : ℤ). instantAnswer (a .c) (withYear y (a .w))) (toZ-ofZ w64 (s .signed-size .result) (record { sfits = s .signed-size .ok }) ∙ s .signed-size .ensures)
 
-signed-size-requires : tie.Need-signed-size-requires
-signed-size-requires c κs = search needs
-
-instant-of-requires : tie.Need-instant-of-requires
-instant-of-requires c κs = search needs
-
-enum-known-r : tie.Need-enum-known-r
-enum-known-r c = search needs
-
 returns : tie.Need-returns
 unfolding writtenInstant
 returns c =
     let i = c .before .before .before in
     let a = i .before .before .before .before .args in
     ap (lessZone (a .c) (a .w .time .zone)) (sym (c .before .r .given .1) ∙ answer i)
-
-enum-known-u : tie.Need-enum-known-u
-enum-known-u c = search needs
 
 -- the local instant, as it is passed on
 local : (k : tie.After-known-told2) → toZ w64 (ofZ w64 (k .before .u .given .0 .0)) ≡ k .before .u .given .0 .0
@@ -59,10 +47,10 @@ pub written-instant-spec : {M : Type 1} → statement M
 written-instant-spec =
     tie.close
     (tie.spec
-    signed-size-requires
-    instant-of-requires
-    enum-known-r
+    (λ c κs. search needs)
+    (λ c κs. search needs)
+    (λ c. search needs)
     returns
-    enum-known-u
+    (λ c. search needs)
     less-zone-requires
     returns-2)

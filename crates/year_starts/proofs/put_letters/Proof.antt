@@ -17,27 +17,6 @@ abbrev μ-loop : tie.MeasureT-loop
 loop-holds : tie.Need-loop-holds Inv-loop μ-loop
 loop-holds c = (refl, omega arith, omega arith, omega arith, omega arith)
 
-add-put-letter : tie.Need-add-put-letter Inv-loop μ-loop
-add-put-letter c = search needs
-
-put-letter-requires : tie.Need-put-letter-requires Inv-loop μ-loop
-put-letter-requires c κs = search needs
-
-add-i : tie.Need-add-i Inv-loop μ-loop
-add-i c = search needs
-
-loop-less : tie.Need-loop-less Inv-loop μ-loop
-loop-less c = search needs
-
-loop-again : tie.Need-loop-again Inv-loop μ-loop
-loop-again c = search needs
-
-same-length : tie.Need-same-length Inv-loop μ-loop
-same-length c = search needs
-
-returns : tie.Need-returns Inv-loop μ-loop
-returns c = search needs
-
 pub put-letters-spec : {M : Type 1} → statement M
 put-letters-spec =
     tie.close
@@ -45,10 +24,10 @@ put-letters-spec =
     Inv-loop
     μ-loop
     loop-holds
-    add-put-letter
-    put-letter-requires
-    add-i
-    loop-less
-    loop-again
-    same-length
-    returns)
+    (λ c. search needs)
+    (λ c κs. search needs)
+    (λ c. search needs)
+    (λ c. search needs)
+    (λ c. search needs)
+    (λ c. search needs)
+    (λ c. search needs))

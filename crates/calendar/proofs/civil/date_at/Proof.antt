@@ -15,15 +15,6 @@ near c =
     let x = n .before .before .args .c in
     omega (arith, c .before .if1 .taken, n .late-from .ensures, c .lag-of .ensures, late-small (rowOf x) (cutover x))
 
-row-of-requires : tie.Need-row-of-requires
-row-of-requires c κs = search needs
-
-late-from-requires : tie.Need-late-from-requires
-late-from-requires c κs = search needs
-
-lag-of-requires : tie.Need-lag-of-requires
-lag-of-requires c κs = search needs
-
 add-date-by-rule : tie.Need-add-date-by-rule
 add-date-by-rule c = record { fits = omega (arith, near c) }
 
@@ -42,9 +33,6 @@ returns c =
     ∙ ((λ i. dayDate (plain (e i .early) (e i .zero)) (r .before .args .n + l .lag-of .ensures i))
     ∙ sym (dated-early (rowOf x) (cutover x) (r .before .args .n) (omega (arith, l .before .if1 .taken, n .late-from .ensures))))
 
-date-by-rule-requires-2 : tie.Need-date-by-rule-requires-2
-date-by-rule-requires-2 c κs = search needs
-
 returns-2 : tie.Need-returns-2
 unfolding dateOf
 returns-2 c =
@@ -60,11 +48,11 @@ pub date-at-spec : {M : Type 1} → statement M
 date-at-spec =
     tie.close
     (tie.spec
-    row-of-requires
-    late-from-requires
-    lag-of-requires
+    (λ c κs. search needs)
+    (λ c κs. search needs)
+    (λ c κs. search needs)
     add-date-by-rule
     date-by-rule-requires
     returns
-    date-by-rule-requires-2
+    (λ c κs. search needs)
     returns-2)

@@ -9,17 +9,8 @@ use borrow.Author.Needs.{needs}
 use Rattle.calendar.proofs.civil.date_by_rule.Statement.{statement}
 use Rattle.calendar.proofs.civil.date_by_rule.Tie as tie
 
-place-of-requires : tie.Need-place-of-requires
-place-of-requires c κs = search needs
-
 year-name-requires : tie.Need-year-name-requires
 year-name-requires c κs = split-small (c .before .args .r) (c .before .args .n) (c .place-of .result) (c .place-of .ensures) (c .before .pre) .0
-
-add-t6 : tie.Need-add-t6
-add-t6 c = search needs
-
-cast-t7 : tie.Need-cast-t7
-cast-t7 c = search needs
 
 add-t8 : tie.Need-add-t8
 add-t8 c = let s = c .before .before .before in record { fits = omega (arith, split-small (s .before .args .r) (s .before .args .n) (s .place-of .result) (s .place-of .ensures) (s .before .pre)) }
@@ -35,4 +26,12 @@ returns c =
 
 pub date-by-rule-spec : {M : Type 1} → statement M
 date-by-rule-spec =
-    tie.close (tie.spec place-of-requires year-name-requires add-t6 cast-t7 add-t8 cast-t9 returns)
+    tie.close
+    (tie.spec
+    (λ c κs. search needs)
+    year-name-requires
+    (λ c. search needs)
+    (λ c. search needs)
+    add-t8
+    cast-t9
+    returns)

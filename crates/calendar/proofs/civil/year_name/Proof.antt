@@ -12,15 +12,6 @@ use borrow.Author.Needs.{needs}
 use Rattle.calendar.proofs.civil.year_name.Statement.{statement}
 use Rattle.calendar.proofs.civil.year_name.Tie as tie
 
-sub-unbiased : tie.Need-sub-unbiased
-sub-unbiased c = search needs
-
-add-unbiased : tie.Need-add-unbiased
-add-unbiased c = search needs
-
-unbiased-requires : tie.Need-unbiased-requires
-unbiased-requires c κs = search needs
-
 returns : tie.Need-returns
 returns c =
     let y = c .before .before .args .y in
@@ -29,15 +20,6 @@ returns c =
     let name : yearAt z y ≡ subℕ y 10000 = rw (c .before .if1 .taken) in
     toZ-ofZ w64 r (record { sfits = c .unbiased .ok }) ∙ (c .unbiased .ensures ∙ (same-diff (y + 9223372036854765808) 9223372036854775808 y 10000 (omega arith) ∙ sym name))
 
-sub-unbiased-2 : tie.Need-sub-unbiased-2
-sub-unbiased-2 c = search needs
-
-add-unbiased-2 : tie.Need-add-unbiased-2
-add-unbiased-2 c = search needs
-
-unbiased-requires-2 : tie.Need-unbiased-requires-2
-unbiased-requires-2 c κs = search needs
-
 returns-2 : tie.Need-returns-2
 returns-2 c =
     let y = c .before .before .before .args .y in
@@ -45,15 +27,6 @@ returns-2 c =
     let r = c .unbiased2 .result in
     let name : yearAt z y ≡ subℕ y 10001 = rw (c .before .before .if1 .left, le-leb y 10000 (c .before .if2 .taken)) in
     toZ-ofZ w64 r (record { sfits = c .unbiased2 .ok }) ∙ (c .unbiased2 .ensures ∙ (same-diff (y + 9223372036854765807) 9223372036854775808 y 10001 (omega arith) ∙ sym name))
-
-sub-unbiased-3 : tie.Need-sub-unbiased-3
-sub-unbiased-3 c = search needs
-
-add-unbiased-3 : tie.Need-add-unbiased-3
-add-unbiased-3 c = search needs
-
-unbiased-requires-3 : tie.Need-unbiased-requires-3
-unbiased-requires-3 c κs = search needs
 
 returns-3 : tie.Need-returns-3
 returns-3 c =
@@ -67,15 +40,15 @@ pub year-name-spec : {M : Type 1} → statement M
 year-name-spec =
     tie.close
     (tie.spec
-    sub-unbiased
-    add-unbiased
-    unbiased-requires
+    (λ c. search needs)
+    (λ c. search needs)
+    (λ c κs. search needs)
     returns
-    sub-unbiased-2
-    add-unbiased-2
-    unbiased-requires-2
+    (λ c. search needs)
+    (λ c. search needs)
+    (λ c κs. search needs)
     returns-2
-    sub-unbiased-3
-    add-unbiased-3
-    unbiased-requires-3
+    (λ c. search needs)
+    (λ c. search needs)
+    (λ c κs. search needs)
     returns-3)

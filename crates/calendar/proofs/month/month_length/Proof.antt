@@ -6,15 +6,6 @@ use Rattle.calendar.proofs.Tables.{month-days}
 use Rattle.calendar.proofs.month.month_length.Statement.{statement}
 use Rattle.calendar.proofs.month.month_length.Tie as tie
 
-mul-result : tie.Need-mul-result
-mul-result c = search needs
-
-index-1-result : tie.Need-index-1-result
-index-1-result c = search needs
-
-index-2-result : tie.Need-index-2-result
-index-2-result c = search needs
-
 cast-result : tie.Need-cast-result
 unfolding monthDays
 cast-result c = record { fits = omega (arith, month-days (c .before .args .k) (c .before .args .m) (c .before .pre .0) (c .before .pre .1)) }
@@ -25,4 +16,10 @@ returns c = search needs
 
 pub month-length-spec : {M : Type 1} → statement M
 month-length-spec =
-    tie.close (tie.spec mul-result index-1-result index-2-result cast-result returns)
+    tie.close
+    (tie.spec
+    (λ c. search needs)
+    (λ c. search needs)
+    (λ c. search needs)
+    cast-result
+    returns)

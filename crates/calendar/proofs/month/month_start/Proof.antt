@@ -15,24 +15,12 @@ early : (k m : ℕ) (t : Bool) → ltb m 2 ≡ t → cond t 0 (2 - k) ≤ (367 *
 early k m true e = omega arith
 early k m false e = omega (arith, ltb-false m 2 e)
 
-mul-result : tie.Need-mul-result
-mul-result c = search needs
-
 returns : tie.Need-returns
 returns c =
     let k = c .before .args .k in
     let m = c .before .args .m in
     let e : monthStartOf k m ≡ 30 * m = rw (eq-eqb k 2 (c .if1 .taken)) in
     sym e ∙ month-start k m (c .before .pre .0) (c .before .pre .1)
-
-mul-result-2 : tie.Need-mul-result-2
-mul-result-2 c = search needs
-
-add-result : tie.Need-add-result
-add-result c = search needs
-
-short-days-requires : tie.Need-short-days-requires
-short-days-requires c κs = search needs
 
 sub-result : tie.Need-sub-result
 sub-result c =
@@ -50,4 +38,11 @@ returns-2 c =
 pub month-start-spec : {M : Type 1} → statement M
 month-start-spec =
     tie.close
-    (tie.spec mul-result returns mul-result-2 add-result short-days-requires sub-result returns-2)
+    (tie.spec
+    (λ c. search needs)
+    returns
+    (λ c. search needs)
+    (λ c. search needs)
+    (λ c κs. search needs)
+    sub-result
+    returns-2)

@@ -5,20 +5,18 @@ use borrow.Author.Needs.{needs}
 use Rattle.calendar.proofs.month.past_february.Statement.{statement}
 use Rattle.calendar.proofs.month.past_february.Tie as tie
 
-add-if1 : tie.Need-add-if1
-add-if1 c = search needs
-
 returns : tie.Need-returns
 returns c = rw (lt-ltb (c .before .args .d) (59 + c .before .args .k) (c .if1 .taken))
-
-add-result : tie.Need-add-result
-add-result c = search needs
-
-sub-result : tie.Need-sub-result
-sub-result c = search needs
 
 returns-2 : tie.Need-returns-2
 returns-2 c = rw (le-ltb (c .before .args .d) (59 + c .before .args .k) (c .if1 .left))
 
 pub past-february-spec : {M : Type 1} → statement M
-past-february-spec = tie.close (tie.spec add-if1 returns add-result sub-result returns-2)
+past-february-spec =
+    tie.close
+    (tie.spec
+    (λ c. search needs)
+    returns
+    (λ c. search needs)
+    (λ c. search needs)
+    returns-2)

@@ -30,37 +30,19 @@ day-is c = let a = c .before .before .args in c .days-before .ensures ∙ ap (λ
 sub-t7 : tie.Need-sub-t7
 sub-t7 c = parts c .month-low
 
-cast-t8 : tie.Need-cast-t8
-cast-t8 c = search needs
-
 sub-unbiased : tie.Need-sub-unbiased
 sub-unbiased c = parts c .day-low
-
-cast-unbiased : tie.Need-cast-unbiased
-cast-unbiased c = search needs
-
-rule-at-requires : tie.Need-rule-at-requires
-rule-at-requires c κs = search needs
 
 days-before-requires : tie.Need-days-before-requires
 days-before-requires c κs = let s = c .before in (s .pre .0, (omega (arith, parts s .month-low, parts s .month-high), omega (arith, below s)))
 
-origin-requires : tie.Need-origin-requires
-origin-requires c κs = search needs
-
 add-unbiased : tie.Need-add-unbiased
 add-unbiased c = record { fits = omega (arith, day-is (c .before), below (c .before .before .before), c .origin .ensures, c .before .before .before .pre .0) }
-
-lag-at-requires : tie.Need-lag-at-requires
-lag-at-requires c κs = search needs
 
 sub-unbiased-2 : tie.Need-sub-unbiased-2
 sub-unbiased-2 c =
     let a = c .before .before .before .before .args in
     omega (arith, c .before .origin .ensures, c .lag-at .ensures, lag-at-small (a .c) (a .y) (a .month) (a .day), small (a .c))
-
-unbiased-requires : tie.Need-unbiased-requires
-unbiased-requires c κs = search needs
 
 returns : tie.Need-returns
 returns c =
@@ -77,14 +59,14 @@ day-in-year-spec =
     tie.close
     (tie.spec
     sub-t7
-    cast-t8
+    (λ c. search needs)
     sub-unbiased
-    cast-unbiased
-    rule-at-requires
+    (λ c. search needs)
+    (λ c κs. search needs)
     days-before-requires
-    origin-requires
+    (λ c κs. search needs)
     add-unbiased
-    lag-at-requires
+    (λ c κs. search needs)
     sub-unbiased-2
-    unbiased-requires
+    (λ c κs. search needs)
     returns)

@@ -7,19 +7,10 @@ use borrow.Author.Needs.{needs}
 use Rattle.calendar.proofs.ordinal.exists_in_year.Statement.{statement}
 use Rattle.calendar.proofs.ordinal.exists_in_year.Tie as tie
 
-is-dropped-requires : tie.Need-is-dropped-requires
-is-dropped-requires c κs = search needs
-
 returns : tie.Need-returns
 returns c =
     let a = c .before .before .args in
     ap (λ (t : Bool). not t && hasDayAt (ruleAt (counts (a .c)) (a .y) (a .month) (a .day)) (a .y) (a .month) (a .day)) (sym (c .if1 .taken) ∙ c .before .is-dropped .ensures) ∙ sym (exists-by (a .c) (a .y) (a .month) (a .day))
-
-rule-at-requires : tie.Need-rule-at-requires
-rule-at-requires c κs = search needs
-
-has-day-requires : tie.Need-has-day-requires
-has-day-requires c κs = search needs
 
 returns-2 : tie.Need-returns-2
 returns-2 c =
@@ -30,4 +21,10 @@ returns-2 c =
 
 pub exists-in-year-spec : {M : Type 1} → statement M
 exists-in-year-spec =
-    tie.close (tie.spec is-dropped-requires returns rule-at-requires has-day-requires returns-2)
+    tie.close
+    (tie.spec
+    (λ c κs. search needs)
+    returns
+    (λ c κs. search needs)
+    (λ c κs. search needs)
+    returns-2)

@@ -18,12 +18,6 @@ returns-2 c = let a = c .before .before .args in sym (not-at (a .r) (a .y) (a .m
 returns-3 : tie.Need-returns-3
 returns-3 c = let a = c .before .before .before .args in sym (not-at (a .r) (a .y) (a .month) (a .day) (λ v. omega (arith, v .day-low, c .if3 .taken)))
 
-cast-m : tie.Need-cast-m
-cast-m c = search needs
-
-kind-of-year-requires : tie.Need-kind-of-year-requires
-kind-of-year-requires c κs = search needs
-
 month-length-requires : tie.Need-month-length-requires
 month-length-requires c κs =
     let n = c .before in
@@ -44,7 +38,7 @@ has-day-spec =
     returns
     returns-2
     returns-3
-    cast-m
-    kind-of-year-requires
+    (λ c. search needs)
+    (λ c κs. search needs)
     month-length-requires
     returns-4)

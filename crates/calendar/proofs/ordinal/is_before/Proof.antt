@@ -9,9 +9,6 @@ returns c = let a = c .before .before .before .args in by-other-year (a .y) (a .
 returns-2 : tie.Need-returns-2
 returns-2 c = let a = c .before .before .before .before .args in by-month-before (a .y) (a .month) (a .day) (a .p) (c .before .before .if1 .left) (c .if2 .taken)
 
-sub-if3 : tie.Need-sub-if3
-sub-if3 c = search needs
-
 returns-3 : tie.Need-returns-3
 returns-3 c = let a = c .before .before .before .before .before .before .args in by-month-after (a .y) (a .month) (a .day) (a .p) (c .before .before .before .before .if1 .left) (c .if3 .taken)
 
@@ -23,4 +20,11 @@ returns-4 c =
     by-day-test (a .y) (a .month) (a .day) (a .p) (e .before .before .if1 .left) (e .if2 .left) (l .if3 .left)
 
 pub is-before-spec : {M : Type 1} → statement M
-is-before-spec = tie.close (tie.spec returns returns-2 sub-if3 returns-3 returns-4)
+is-before-spec =
+    tie.close
+    (tie.spec
+    returns
+    returns-2
+    (λ c. search needs)
+    returns-3
+    returns-4)

@@ -8,19 +8,10 @@ use borrow.Author.Needs.{needs}
 use Rattle.calendar.proofs.ordinal.is_dropped.Statement.{statement}
 use Rattle.calendar.proofs.ordinal.is_dropped.Tie as tie
 
-is-early-requires : tie.Need-is-early-requires
-is-early-requires c κs = search needs
-
 returns : tie.Need-returns
 returns c =
     let a = c .before .before .args in
     sym (left-out (isEarly (counts (a .c)) (a .y) (a .month) (a .day)) (not (beforePlace (a .y) (a .month) (a .day) (counts (a .c) .until))) (sym (c .before .is-early .ensures) ∙ not-true (c .before .is-early .result) (c .if1 .taken)))
-
-row-of-requires : tie.Need-row-of-requires
-row-of-requires c κs = search needs
-
-is-before-requires : tie.Need-is-before-requires
-is-before-requires c κs = search needs
 
 returns-2 : tie.Need-returns-2
 returns-2 c =
@@ -32,4 +23,10 @@ returns-2 c =
 
 pub is-dropped-spec : {M : Type 1} → statement M
 is-dropped-spec =
-    tie.close (tie.spec is-early-requires returns row-of-requires is-before-requires returns-2)
+    tie.close
+    (tie.spec
+    (λ c κs. search needs)
+    returns
+    (λ c κs. search needs)
+    (λ c κs. search needs)
+    returns-2)

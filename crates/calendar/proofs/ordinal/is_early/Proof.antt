@@ -7,19 +7,10 @@ use borrow.Author.Needs.{needs}
 use Rattle.calendar.proofs.ordinal.is_early.Statement.{statement}
 use Rattle.calendar.proofs.ordinal.is_early.Tie as tie
 
-is-mixed-requires : tie.Need-is-mixed-requires
-is-mixed-requires c κs = search needs
-
 returns : tie.Need-returns
 returns c =
     let m : mixed (counts (c .before .before .args .c)) ≡ false = sym (c .before .is-mixed .ensures) ∙ not-true (c .before .is-mixed .result) (c .if1 .taken) in
     rw m
-
-row-of-requires : tie.Need-row-of-requires
-row-of-requires c κs = search needs
-
-is-before-requires : tie.Need-is-before-requires
-is-before-requires c κs = search needs
 
 returns-2 : tie.Need-returns-2
 returns-2 c =
@@ -31,4 +22,10 @@ returns-2 c =
 
 pub is-early-spec : {M : Type 1} → statement M
 is-early-spec =
-    tie.close (tie.spec is-mixed-requires returns row-of-requires is-before-requires returns-2)
+    tie.close
+    (tie.spec
+    (λ c κs. search needs)
+    returns
+    (λ c κs. search needs)
+    (λ c κs. search needs)
+    returns-2)

@@ -5,12 +5,6 @@ use borrow.Author.Needs.{needs}
 use Rattle.calendar.proofs.ordinal.lag_at.Statement.{statement}
 use Rattle.calendar.proofs.ordinal.lag_at.Tie as tie
 
-is-early-requires : tie.Need-is-early-requires
-is-early-requires c κs = search needs
-
-lag-of-requires : tie.Need-lag-of-requires
-lag-of-requires c κs = search needs
-
 returns : tie.Need-returns
 returns c =
     let e = c .before .before in
@@ -20,4 +14,10 @@ returns-2 : tie.Need-returns-2
 returns-2 c = let e = c .before in ap (λ (t : Bool). cond t (lag (counts (e .before .args .c))) 0) (sym (c .if1 .left) ∙ e .is-early .ensures)
 
 pub lag-at-spec : {M : Type 1} → statement M
-lag-at-spec = tie.close (tie.spec is-early-requires lag-of-requires returns returns-2)
+lag-at-spec =
+    tie.close
+    (tie.spec
+    (λ c κs. search needs)
+    (λ c κs. search needs)
+    returns
+    returns-2)

@@ -6,12 +6,6 @@ use borrow.Author.Needs.{needs}
 use Rattle.calendar.proofs.ordinal.rule_at.Statement.{statement}
 use Rattle.calendar.proofs.ordinal.rule_at.Tie as tie
 
-row-of-requires : tie.Need-row-of-requires
-row-of-requires c κs = search needs
-
-is-early-requires : tie.Need-is-early-requires
-is-early-requires c κs = search needs
-
 returns : tie.Need-returns
 returns c =
     let e = c .before in
@@ -25,4 +19,10 @@ returns-2 c =
     ap (λ (j : CountedRow). j .late) (e .before .row-of .ensures) ∙ ap (λ (t : Bool). cond t (k .early) (k .late)) (sym (c .if1 .left) ∙ e .is-early .ensures)
 
 pub rule-at-spec : {M : Type 1} → statement M
-rule-at-spec = tie.close (tie.spec row-of-requires is-early-requires returns returns-2)
+rule-at-spec =
+    tie.close
+    (tie.spec
+    (λ c κs. search needs)
+    (λ c κs. search needs)
+    returns
+    returns-2)

@@ -16,12 +16,6 @@ small c =
       omega (arith, c .month-start .ensures, s .pre .1 .0, month-room (k .result) (s .args .p .m) (rw (k .ensures) (kind-low (s .args .r) (s .args .p .y))) (omega (arith, s .pre .1 .0))),
     )
 
-kind-of-year-requires : tie.Need-kind-of-year-requires
-kind-of-year-requires c κs = search needs
-
-year-start-requires : tie.Need-year-start-requires
-year-start-requires c κs = search needs
-
 month-start-requires : tie.Need-month-start-requires
 month-start-requires c κs = let s = c .before .before in (rw (c .before .kind-of-year .ensures) (kind-low (s .args .r) (s .args .p .y)), s .pre .1 .0)
 
@@ -42,8 +36,8 @@ pub days-before-spec : {M : Type 1} → statement M
 days-before-spec =
     tie.close
     (tie.spec
-    kind-of-year-requires
-    year-start-requires
+    (λ c κs. search needs)
+    (λ c κs. search needs)
     month-start-requires
     add-result
     add-result-2

@@ -10,17 +10,8 @@ use borrow.Author.Needs.{needs}
 use Rattle.calendar.proofs.place.place_of.Statement.{statement}
 use Rattle.calendar.proofs.place.place_of.Tie as tie
 
-year-of-requires : tie.Need-year-of-requires
-year-of-requires c κs = search needs
-
-kind-of-year-requires : tie.Need-kind-of-year-requires
-kind-of-year-requires c κs = search needs
-
 year-start-requires : tie.Need-year-start-requires
 year-start-requires c κs = omega (arith, c .before .year-of .ensures, year-least (c .before .before .args .r) (c .before .year-of .result))
-
-sub-d : tie.Need-sub-d
-sub-d c = search needs
 
 month-of-requires : tie.Need-month-of-requires
 month-of-requires c κs =
@@ -35,9 +26,6 @@ month-start-requires c κs =
     let y = c .before .before .before .year-of .result in
     (rw (c .before .before .kind-of-year .ensures) (kind-low r y), c .month-of .ensures .month)
 
-sub-i : tie.Need-sub-i
-sub-i c = search needs
-
 returns : tie.Need-returns
 returns c =
     let s = c .before .before .before .before .before in
@@ -48,11 +36,11 @@ pub place-of-spec : {M : Type 1} → statement M
 place-of-spec =
     tie.close
     (tie.spec
-    year-of-requires
-    kind-of-year-requires
+    (λ c κs. search needs)
+    (λ c κs. search needs)
     year-start-requires
-    sub-d
+    (λ c. search needs)
     month-of-requires
     month-start-requires
-    sub-i
+    (λ c. search needs)
     returns)

@@ -7,9 +7,6 @@ use borrow.Author.Needs.{needs}
 use Rattle.calendar.proofs.row.is_mixed.Statement.{statement}
 use Rattle.calendar.proofs.row.is_mixed.Tie as tie
 
-row-of-requires : tie.Need-row-of-requires
-row-of-requires c κs = search needs
-
 returns : tie.Need-returns
 returns c =
     let r = c .before .before .row-of in
@@ -30,4 +27,10 @@ returns-3 c =
     sym m ∙ ap mixed (r .ensures)
 
 pub is-mixed-spec : {M : Type 1} → statement M
-is-mixed-spec = tie.close (tie.spec row-of-requires returns returns-2 returns-3)
+is-mixed-spec =
+    tie.close
+    (tie.spec
+    (λ c κs. search needs)
+    returns
+    returns-2
+    returns-3)

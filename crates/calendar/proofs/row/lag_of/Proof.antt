@@ -21,16 +21,10 @@ late c =
     let m : mixed (counts (l .before .before .args .c)) ≡ true = sym (l .before .is-mixed .ensures) ∙ not-false (l .before .is-mixed .result) (l .if1 .left) in
     c .late-from .ensures ∙ rw m
 
-is-mixed-requires : tie.Need-is-mixed-requires
-is-mixed-requires c κs = search needs
-
 returns : tie.Need-returns
 returns c =
     let x = c .before .before .args .c in
     sym (no-lag (rowOf x) (cutover x) (sym (c .before .is-mixed .ensures) ∙ not-true (c .before .is-mixed .result) (c .if1 .taken)))
-
-row-of-requires : tie.Need-row-of-requires
-row-of-requires c κs = search needs
 
 days-before-requires : tie.Need-days-before-requires
 days-before-requires c κs =
@@ -38,9 +32,6 @@ days-before-requires c κs =
     let x = r .before .before .before .args .c in
     let w = until-small (rowOf x) (cutover x) in
     rw (r .row-of .ensures) (omega (arith, w), (w .1 .0, omega (arith, w)))
-
-late-from-requires : tie.Need-late-from-requires
-late-from-requires c κs = search needs
 
 sub-result : tie.Need-sub-result
 sub-result c = omega (arith, late c, early c, cutover (c .before .before .before .before .before .before .args .c) .behind)
@@ -53,10 +44,10 @@ pub lag-of-spec : {M : Type 1} → statement M
 lag-of-spec =
     tie.close
     (tie.spec
-    is-mixed-requires
+    (λ c κs. search needs)
     returns
-    row-of-requires
+    (λ c κs. search needs)
     days-before-requires
-    late-from-requires
+    (λ c κs. search needs)
     sub-result
     returns-2)

@@ -11,16 +11,10 @@ use borrow.Author.Needs.{needs}
 use Rattle.calendar.proofs.row.late_from.Statement.{statement}
 use Rattle.calendar.proofs.row.late_from.Tie as tie
 
-is-mixed-requires : tie.Need-is-mixed-requires
-is-mixed-requires c κs = search needs
-
 returns : tie.Need-returns
 returns c =
     let m : mixed (counts (c .before .before .args .c)) ≡ false = sym (c .before .is-mixed .ensures) ∙ not-true (c .before .is-mixed .result) (c .if1 .taken) in
     rw m
-
-row-of-requires : tie.Need-row-of-requires
-row-of-requires c κs = search needs
 
 days-before-requires : tie.Need-days-before-requires
 days-before-requires c κs =
@@ -39,4 +33,10 @@ returns-2 c =
 
 pub late-from-spec : {M : Type 1} → statement M
 late-from-spec =
-    tie.close (tie.spec is-mixed-requires returns row-of-requires days-before-requires returns-2)
+    tie.close
+    (tie.spec
+    (λ c κs. search needs)
+    returns
+    (λ c κs. search needs)
+    days-before-requires
+    returns-2)

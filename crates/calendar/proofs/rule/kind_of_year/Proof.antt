@@ -7,9 +7,6 @@ use borrow.Author.Needs.{needs}
 use Rattle.calendar.proofs.rule.kind_of_year.Statement.{statement}
 use Rattle.calendar.proofs.rule.kind_of_year.Tie as tie
 
-enum-told : tie.Need-enum-told
-enum-told c = search needs
-
 returns : tie.Need-returns
 returns c = let y = c .before .before .before .args .y in sym (ap (λ (x : Rule). kindAt x y) (c .before .enum-told .given .1) ∙ kind-400 y (c .if1 .taken))
 
@@ -22,31 +19,19 @@ returns-3 c = let y = c .before .before .before .before .before .args .y in sym 
 returns-4 : tie.Need-returns-4
 returns-4 c = let y = c .before .before .before .before .before .args .y in sym (ap (λ (x : Rule). kindAt x y) (c .before .before .before .enum-told .given .1) ∙ kind-other y (c .before .before .if1 .left) (c .if3 .left))
 
-enum-told-2 : tie.Need-enum-told-2
-enum-told-2 c = search needs
-
 returns-5 : tie.Need-returns-5
 returns-5 c = let y = c .before .before .before .args .y in sym (ap (λ (x : Rule). kindAt x y) (c .before .enum-told2 .given .1) ∙ kind-julian-4 y (c .if4 .taken))
 
 returns-6 : tie.Need-returns-6
 returns-6 c = let y = c .before .before .before .args .y in sym (ap (λ (x : Rule). kindAt x y) (c .before .enum-told2 .given .1) ∙ kind-julian-other y (c .if4 .left))
 
-enum-told-3 : tie.Need-enum-told-3
-enum-told-3 c = search needs
-
 returns-7 : tie.Need-returns-7
 unfolding kindAt
 returns-7 c = ap (λ (x : Rule). kindAt x (c .before .before .args .y)) (sym (c .enum-told3 .given .1))
 
-enum-told-4 : tie.Need-enum-told-4
-enum-told-4 c = search needs
-
 returns-8 : tie.Need-returns-8
 unfolding kindAt
 returns-8 c = ap (λ (x : Rule). kindAt x (c .before .before .args .y)) (sym (c .enum-told4 .given .1))
-
-enum-told-5 : tie.Need-enum-told-5
-enum-told-5 c = search needs
 
 returns-9 : tie.Need-returns-9
 unfolding kindAt
@@ -56,17 +41,17 @@ pub kind-of-year-spec : {M : Type 1} → statement M
 kind-of-year-spec =
     tie.close
     (tie.spec
-    enum-told
+    (λ c. search needs)
     returns
     returns-2
     returns-3
     returns-4
-    enum-told-2
+    (λ c. search needs)
     returns-5
     returns-6
-    enum-told-3
+    (λ c. search needs)
     returns-7
-    enum-told-4
+    (λ c. search needs)
     returns-8
-    enum-told-5
+    (λ c. search needs)
     returns-9)

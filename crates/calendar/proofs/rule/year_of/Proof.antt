@@ -20,9 +20,6 @@ back c = omega (arith, low c .0)
 high : (c : tie.Else1) → c .before .before .before .args .n < yearStart (c .before .before .before .args .r) (c .before .before .year-near .result + 1)
 high c = rw (c .before .before .year-near .ensures) (guess-high (c .before .before .before .args .r) (c .before .before .before .args .n))
 
-year-near-requires : tie.Need-year-near-requires
-year-near-requires c κs = search needs
-
 year-start-requires : tie.Need-year-start-requires
 year-start-requires c κs = omega (arith, c .year-near .ensures, guess-small (c .before .args .r) (c .before .args .n))
 
@@ -37,4 +34,10 @@ returns-2 c = (omega (arith, c .if1 .left, c .before .year-start .ensures), high
 
 pub year-of-spec : {M : Type 1} → statement M
 year-of-spec =
-    tie.close (tie.spec year-near-requires year-start-requires sub-result returns returns-2)
+    tie.close
+    (tie.spec
+    (λ c κs. search needs)
+    year-start-requires
+    sub-result
+    returns
+    returns-2)

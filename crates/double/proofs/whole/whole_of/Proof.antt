@@ -57,18 +57,6 @@ size-of-requires c κs =
     let q = c .before .before in
     (subst (λ (n : ℕ). n < 2047) (sym (field-is q)) (finite-field c), given-short (a q .args .x) (q .pattern-of .result) (q .pattern-of .ensures))
 
-enum-known-size : tie.Need-enum-known-size
-enum-known-size c = search needs
-
-with-sign-requires : tie.Need-with-sign-requires
-with-sign-requires c κs = search needs
-
-enum-told : tie.Need-enum-told
-enum-told c = search needs
-
-enum-told-2 : tie.Need-enum-told-2
-enum-told-2 c = search needs
-
 returns-3 : tie.Need-returns-3
 returns-3 c =
     let k = c .before .before in
@@ -90,10 +78,10 @@ whole-of-spec =
     pattern-of-requires
     returns-2
     size-of-requires
-    enum-known-size
-    with-sign-requires
-    enum-told
-    enum-told-2
+    (λ c. search needs)
+    (λ c κs. search needs)
+    (λ c. search needs)
+    (λ c. search needs)
     returns-3
     returns-4
     returns-5)

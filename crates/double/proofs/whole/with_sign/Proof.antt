@@ -17,12 +17,6 @@ use Rattle.double.proofs.whole.with_sign.Tie as tie
 at-sign : {b t : Bool} (n : ℕ) → b ≡ t → in64 (withSign t n) ≡ in64 (withSign b n)
 at-sign n e = ap (λ (b : Bool). in64 (withSign b n)) (sym e)
 
-unbiased-requires : tie.Need-unbiased-requires
-unbiased-requires c κs = search needs
-
-cast-t12 : tie.Need-cast-t12
-cast-t12 c = search needs
-
 returns : tie.Need-returns
 returns c =
     let a = c .before .before .before in
@@ -41,4 +35,11 @@ returns-4 c = let a = c .before .before in in64-no (pos (a .args .n)) (c .if3 .l
 
 pub with-sign-spec : {M : Type 1} → statement M
 with-sign-spec =
-    tie.close (tie.spec unbiased-requires cast-t12 returns returns-2 returns-3 returns-4)
+    tie.close
+    (tie.spec
+    (λ c κs. search needs)
+    (λ c. search needs)
+    returns
+    returns-2
+    returns-3
+    returns-4)

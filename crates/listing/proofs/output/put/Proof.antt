@@ -6,12 +6,6 @@ use borrow.Author.Needs.{needs}
 use Rattle.listing.proofs.output.put.Statement.{statement}
 use Rattle.listing.proofs.output.put.Tie as tie
 
-answer-requires : tie.Need-answer-requires
-answer-requires c κs = search needs
-
-same-length : tie.Need-same-length
-same-length c = search needs
-
 returns : tie.Need-returns
 returns c =
     let start = c .before .before .before .before .before .before in
@@ -20,4 +14,9 @@ returns c =
     ((answered .0, omega (arith, answered .0)), answered .1)
 
 pub put-spec : {M : Type 1} → statement M
-put-spec = tie.close (tie.spec answer-requires same-length returns)
+put-spec =
+    tie.close
+    (tie.spec
+    (λ c κs. search needs)
+    (λ c. search needs)
+    returns)

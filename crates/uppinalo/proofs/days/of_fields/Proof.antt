@@ -8,9 +8,6 @@ use borrow.Author.Needs.{needs}
 use Rattle.uppinalo.proofs.days.of_fields.Statement.{statement}
 use Rattle.uppinalo.proofs.days.of_fields.Tie as tie
 
-enum-known-a : tie.Need-enum-known-a
-enum-known-a c = search needs
-
 returns : tie.Need-returns
 returns c =
     let f = c .before .before .a .given .0 .0 in
@@ -18,15 +15,15 @@ returns c =
     (λ i. record { number = 0; fields = record { year = toZ-ofZ w64 (f .year) fits i; month = f .month; day = f .day; hour = f .hour; minute = f .minute; second = f .second; microsecond = f .microsecond } })
     ∙ ap ofFields (sym (c .before .before .a .given .1))
 
-enum-known-a-2 : tie.Need-enum-known-a-2
-enum-known-a-2 c = search needs
-
-no-fields-requires : tie.Need-no-fields-requires
-no-fields-requires c κs = search needs
-
 returns-2 : tie.Need-returns-2
 returns-2 c = c .no-fields .ensures ∙ ap ofFields (sym (c .before .before .a2 .given .1))
 
 pub of-fields-spec : {M : Type 1} → statement M
 of-fields-spec =
-    tie.close (tie.spec enum-known-a returns enum-known-a-2 no-fields-requires returns-2)
+    tie.close
+    (tie.spec
+    (λ c. search needs)
+    returns
+    (λ c. search needs)
+    (λ c κs. search needs)
+    returns-2)

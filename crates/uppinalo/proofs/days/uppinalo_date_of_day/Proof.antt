@@ -9,28 +9,10 @@ use borrow.Author.Needs.{needs}
 use Rattle.uppinalo.proofs.days.uppinalo_date_of_day.Statement.{statement}
 use Rattle.uppinalo.proofs.days.uppinalo_date_of_day.Tie as tie
 
-calendar-of-requires : tie.Need-calendar-of-requires
-calendar-of-requires c κs = search needs
-
-enum-told : tie.Need-enum-told
-enum-told c = search needs
-
-no-date-requires : tie.Need-no-date-requires
-no-date-requires c κs = search needs
-
 returns : tie.Need-returns
 returns c =
     let k = c .before .before .before in
     c .no-date .ensures ∙ ap (λ (x : CodedCalendar). dateByCode x (k .before .args .day)) (sym (c .before .enum-told .given .1) ∙ k .calendar-of .ensures)
-
-enum-known-c : tie.Need-enum-known-c
-enum-known-c c = search needs
-
-date-of-day-requires : tie.Need-date-of-day-requires
-date-of-day-requires c κs = search needs
-
-of-date-requires : tie.Need-of-date-requires
-of-date-requires c κs = search needs
 
 returns-2 : tie.Need-returns-2
 returns-2 c =
@@ -44,11 +26,11 @@ pub uppinalo-date-of-day-spec : {M : Type 1} → statement M
 uppinalo-date-of-day-spec =
     tie.close
     (tie.spec
-    calendar-of-requires
-    enum-told
-    no-date-requires
+    (λ c κs. search needs)
+    (λ c. search needs)
+    (λ c κs. search needs)
     returns
-    enum-known-c
-    date-of-day-requires
-    of-date-requires
+    (λ c. search needs)
+    (λ c κs. search needs)
+    (λ c κs. search needs)
     returns-2)

@@ -6,28 +6,10 @@ use borrow.Author.Needs.{needs}
 use Rattle.uppinalo.proofs.days.uppinalo_day_of_date.Statement.{statement}
 use Rattle.uppinalo.proofs.days.uppinalo_day_of_date.Tie as tie
 
-calendar-of-requires : tie.Need-calendar-of-requires
-calendar-of-requires c κs = search needs
-
-enum-told : tie.Need-enum-told
-enum-told c = search needs
-
-no-day-requires : tie.Need-no-day-requires
-no-day-requires c κs = search needs
-
 returns : tie.Need-returns
 returns c =
     let k = c .before .before .before in
     c .no-day .ensures ∙ ap (λ (x : CodedCalendar). dayByCode x (k .before .args .date)) (sym (c .before .enum-told .given .1) ∙ k .calendar-of .ensures)
-
-enum-known-c : tie.Need-enum-known-c
-enum-known-c c = search needs
-
-day-of-date-requires : tie.Need-day-of-date-requires
-day-of-date-requires c κs = search needs
-
-of-day-requires : tie.Need-of-day-requires
-of-day-requires c κs = search needs
 
 returns-2 : tie.Need-returns-2
 returns-2 c =
@@ -41,11 +23,11 @@ pub uppinalo-day-of-date-spec : {M : Type 1} → statement M
 uppinalo-day-of-date-spec =
     tie.close
     (tie.spec
-    calendar-of-requires
-    enum-told
-    no-day-requires
+    (λ c κs. search needs)
+    (λ c. search needs)
+    (λ c κs. search needs)
     returns
-    enum-known-c
-    day-of-date-requires
-    of-day-requires
+    (λ c. search needs)
+    (λ c κs. search needs)
+    (λ c κs. search needs)
     returns-2)

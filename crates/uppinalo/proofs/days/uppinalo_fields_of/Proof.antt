@@ -9,28 +9,10 @@ use borrow.Author.Needs.{needs}
 use Rattle.uppinalo.proofs.days.uppinalo_fields_of.Statement.{statement}
 use Rattle.uppinalo.proofs.days.uppinalo_fields_of.Tie as tie
 
-calendar-of-requires : tie.Need-calendar-of-requires
-calendar-of-requires c κs = search needs
-
-enum-told : tie.Need-enum-told
-enum-told c = search needs
-
-no-fields-requires : tie.Need-no-fields-requires
-no-fields-requires c κs = search needs
-
 returns : tie.Need-returns
 returns c =
     let k = c .before .before .before in
     c .no-fields .ensures ∙ ap (λ (x : CodedCalendar). fieldsByCode x (k .before .args .instant)) (sym (c .before .enum-told .given .1) ∙ k .calendar-of .ensures)
-
-enum-known-c : tie.Need-enum-known-c
-enum-known-c c = search needs
-
-fields-of-requires : tie.Need-fields-of-requires
-fields-of-requires c κs = search needs
-
-of-fields-requires : tie.Need-of-fields-requires
-of-fields-requires c κs = search needs
 
 returns-2 : tie.Need-returns-2
 returns-2 c =
@@ -44,11 +26,11 @@ pub uppinalo-fields-of-spec : {M : Type 1} → statement M
 uppinalo-fields-of-spec =
     tie.close
     (tie.spec
-    calendar-of-requires
-    enum-told
-    no-fields-requires
+    (λ c κs. search needs)
+    (λ c. search needs)
+    (λ c κs. search needs)
     returns
-    enum-known-c
-    fields-of-requires
-    of-fields-requires
+    (λ c. search needs)
+    (λ c κs. search needs)
+    (λ c κs. search needs)
     returns-2)

@@ -4,11 +4,12 @@ use borrow.Author.Needs.{needs}
 use Rattle.uppinalo.proofs.offset_runs.no_run.Statement.{statement}
 use Rattle.uppinalo.proofs.offset_runs.no_run.Tie as tie
 
-number-requires : tie.Need-number-requires
-number-requires c κs = search needs
-
 returns : tie.Need-returns
 returns c = λ i. record { number = c .number .ensures i; place = 0; length = 0; rounded = 0 }
 
 pub no-run-spec : {M : Type 1} → statement M
-no-run-spec = tie.close (tie.spec number-requires returns)
+no-run-spec =
+    tie.close
+    (tie.spec
+    (λ c κs. search needs)
+    returns)

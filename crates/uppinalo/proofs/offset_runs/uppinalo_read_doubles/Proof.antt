@@ -7,30 +7,12 @@ use borrow.Author.Needs.{needs}
 use Rattle.uppinalo.proofs.offset_runs.uppinalo_read_doubles.Statement.{statement}
 use Rattle.uppinalo.proofs.offset_runs.uppinalo_read_doubles.Tie as tie
 
-axis-of-requires : tie.Need-axis-of-requires
-axis-of-requires c κs = search needs
-
-enum-known-r : tie.Need-enum-known-r
-enum-known-r c = search needs
-
-no-run-requires : tie.Need-no-run-requires
-no-run-requires c κs = search needs
-
 returns : tie.Need-returns
 returns c =
     let k = c .before .before .before .before in
     let a = k .before .before .args in
     let e = sym (c .before .before .r .given .1) ∙ k .axis-of .ensures in
     (c .no-run .ensures ∙ ap (λ (x : CodedAxis). runOn x readDoubleOn (a .source .now) (a .destination .now)) e, ap (λ (x : CodedAxis). destinationOn x readDoubleOn (a .source .now) (a .destination .now)) e)
-
-enum-known-a : tie.Need-enum-known-a
-enum-known-a c = search needs
-
-read-doubles-requires : tie.Need-read-doubles-requires
-read-doubles-requires c κs = search needs
-
-same-length : tie.Need-same-length
-same-length c = search needs
 
 returns-2 : tie.Need-returns-2
 returns-2 c =
@@ -45,11 +27,11 @@ pub uppinalo-read-doubles-spec : {M : Type 1} → statement M
 uppinalo-read-doubles-spec =
     tie.close
     (tie.spec
-    axis-of-requires
-    enum-known-r
-    no-run-requires
+    (λ c κs. search needs)
+    (λ c. search needs)
+    (λ c κs. search needs)
     returns
-    enum-known-a
-    read-doubles-requires
-    same-length
+    (λ c. search needs)
+    (λ c κs. search needs)
+    (λ c. search needs)
     returns-2)

@@ -4,11 +4,12 @@ use borrow.Author.Needs.{needs}
 use Rattle.uppinalo.proofs.offsets.no_offset.Statement.{statement}
 use Rattle.uppinalo.proofs.offsets.no_offset.Tie as tie
 
-number-requires : tie.Need-number-requires
-number-requires c κs = search needs
-
 returns : tie.Need-returns
 returns c = λ i. record { number = c .number .ensures i; offset = pos 0 }
 
 pub no-offset-spec : {M : Type 1} → statement M
-no-offset-spec = tie.close (tie.spec number-requires returns)
+no-offset-spec =
+    tie.close
+    (tie.spec
+    (λ c κs. search needs)
+    returns)

@@ -5,11 +5,12 @@ use borrow.Author.Needs.{needs}
 use Rattle.uppinalo.proofs.offsets.no_reading.Statement.{statement}
 use Rattle.uppinalo.proofs.offsets.no_reading.Tie as tie
 
-number-requires : tie.Need-number-requires
-number-requires c κs = search needs
-
 returns : tie.Need-returns
 returns c = λ i. record { number = c .number .ensures i; instant = pos 0; exact = false }
 
 pub no-reading-spec : {M : Type 1} → statement M
-no-reading-spec = tie.close (tie.spec number-requires returns)
+no-reading-spec =
+    tie.close
+    (tie.spec
+    (λ c κs. search needs)
+    returns)

@@ -7,23 +7,20 @@ use borrow.Author.Needs.{needs}
 use Rattle.uppinalo.proofs.offsets.of_offset.Statement.{statement}
 use Rattle.uppinalo.proofs.offsets.of_offset.Tie as tie
 
-enum-known-a : tie.Need-enum-known-a
-enum-known-a c = search needs
-
 returns : tie.Need-returns
 returns c =
     let n = c .before .a .given .0 .0 in
     (λ i. record { number = 0; offset = toZ-ofZ w64 n (record { sfits = c .known-told .given .0 .1 }) i }) ∙ ap ofOffset (sym (c .before .a .given .1))
-
-enum-known-a-2 : tie.Need-enum-known-a-2
-enum-known-a-2 c = search needs
-
-no-offset-requires : tie.Need-no-offset-requires
-no-offset-requires c κs = search needs
 
 returns-2 : tie.Need-returns-2
 returns-2 c = c .no-offset .ensures ∙ ap ofOffset (sym (c .before .before .a2 .given .1))
 
 pub of-offset-spec : {M : Type 1} → statement M
 of-offset-spec =
-    tie.close (tie.spec enum-known-a returns enum-known-a-2 no-offset-requires returns-2)
+    tie.close
+    (tie.spec
+    (λ c. search needs)
+    returns
+    (λ c. search needs)
+    (λ c κs. search needs)
+    returns-2)

@@ -7,23 +7,20 @@ use borrow.Author.Needs.{needs}
 use Rattle.uppinalo.proofs.offsets.of_reading.Statement.{statement}
 use Rattle.uppinalo.proofs.offsets.of_reading.Tie as tie
 
-enum-known-a : tie.Need-enum-known-a
-enum-known-a c = search needs
-
 returns : tie.Need-returns
 returns c =
     let t = c .before .a .given .0 .0 in
     (λ i. record { number = 0; instant = toZ-ofZ w64 t (record { sfits = c .known-told .given .0 .1 }) i; exact = c .before .a .given .0 .1 .0 }) ∙ ap ofReading (sym (c .before .a .given .1))
-
-enum-known-a-2 : tie.Need-enum-known-a-2
-enum-known-a-2 c = search needs
-
-no-reading-requires : tie.Need-no-reading-requires
-no-reading-requires c κs = search needs
 
 returns-2 : tie.Need-returns-2
 returns-2 c = c .no-reading .ensures ∙ ap ofReading (sym (c .before .before .a2 .given .1))
 
 pub of-reading-spec : {M : Type 1} → statement M
 of-reading-spec =
-    tie.close (tie.spec enum-known-a returns enum-known-a-2 no-reading-requires returns-2)
+    tie.close
+    (tie.spec
+    (λ c. search needs)
+    returns
+    (λ c. search needs)
+    (λ c κs. search needs)
+    returns-2)

@@ -8,29 +8,11 @@ use borrow.Author.Needs.{needs}
 use Rattle.uppinalo.proofs.offsets.uppinalo_read_double.Statement.{statement}
 use Rattle.uppinalo.proofs.offsets.uppinalo_read_double.Tie as tie
 
-axis-of-requires : tie.Need-axis-of-requires
-axis-of-requires c κs = search needs
-
-enum-known-r : tie.Need-enum-known-r
-enum-known-r c = search needs
-
-no-reading-requires : tie.Need-no-reading-requires
-no-reading-requires c κs = search needs
-
 returns : tie.Need-returns
 returns c =
     let k = c .before .before .before .before in
     let s = k .before in
     c .no-reading .ensures ∙ ap (λ (x : CodedAxis). readOn x (λ (a : Axis). readDoubleOn a (s .args .offset))) (sym (c .before .before .r .given .1) ∙ k .axis-of .ensures)
-
-enum-known-a : tie.Need-enum-known-a
-enum-known-a c = search needs
-
-read-double-requires : tie.Need-read-double-requires
-read-double-requires c κs = search needs
-
-of-reading-requires : tie.Need-of-reading-requires
-of-reading-requires c κs = search needs
 
 returns-2 : tie.Need-returns-2
 returns-2 c =
@@ -44,11 +26,11 @@ pub uppinalo-read-double-spec : {M : Type 1} → statement M
 uppinalo-read-double-spec =
     tie.close
     (tie.spec
-    axis-of-requires
-    enum-known-r
-    no-reading-requires
+    (λ c κs. search needs)
+    (λ c. search needs)
+    (λ c κs. search needs)
     returns
-    enum-known-a
-    read-double-requires
-    of-reading-requires
+    (λ c. search needs)
+    (λ c κs. search needs)
+    (λ c κs. search needs)
     returns-2)

@@ -8,29 +8,11 @@ use borrow.Author.Needs.{needs}
 use Rattle.uppinalo.proofs.offsets.uppinalo_write_fields.Statement.{statement}
 use Rattle.uppinalo.proofs.offsets.uppinalo_write_fields.Tie as tie
 
-axis-of-requires : tie.Need-axis-of-requires
-axis-of-requires c κs = search needs
-
-enum-known-r : tie.Need-enum-known-r
-enum-known-r c = search needs
-
-no-offset-requires : tie.Need-no-offset-requires
-no-offset-requires c κs = search needs
-
 returns : tie.Need-returns
 returns c =
     let k = c .before .before .before .before in
     let s = k .before in
     c .no-offset .ensures ∙ ap (λ (x : CodedAxis). writeOn x (λ (a : Axis). writeFieldsOn a (s .args .fields))) (sym (c .before .before .r .given .1) ∙ k .axis-of .ensures)
-
-enum-known-a : tie.Need-enum-known-a
-enum-known-a c = search needs
-
-write-fields-requires : tie.Need-write-fields-requires
-write-fields-requires c κs = search needs
-
-of-offset-requires : tie.Need-of-offset-requires
-of-offset-requires c κs = search needs
 
 returns-2 : tie.Need-returns-2
 returns-2 c =
@@ -44,11 +26,11 @@ pub uppinalo-write-fields-spec : {M : Type 1} → statement M
 uppinalo-write-fields-spec =
     tie.close
     (tie.spec
-    axis-of-requires
-    enum-known-r
-    no-offset-requires
+    (λ c κs. search needs)
+    (λ c. search needs)
+    (λ c κs. search needs)
     returns
-    enum-known-a
-    write-fields-requires
-    of-offset-requires
+    (λ c. search needs)
+    (λ c κs. search needs)
+    (λ c κs. search needs)
     returns-2)

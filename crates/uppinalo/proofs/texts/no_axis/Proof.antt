@@ -4,11 +4,12 @@ use borrow.Author.Needs.{needs}
 use Rattle.uppinalo.proofs.texts.no_axis.Statement.{statement}
 use Rattle.uppinalo.proofs.texts.no_axis.Tie as tie
 
-number-requires : tie.Need-number-requires
-number-requires c κs = search needs
-
 returns : tie.Need-returns
 returns c = λ i. record { number = c .number .ensures i; axis = record { calendar = 0; period = 0; mode = 0; reference = pos 0 } }
 
 pub no-axis-spec : {M : Type 1} → statement M
-no-axis-spec = tie.close (tie.spec number-requires returns)
+no-axis-spec =
+    tie.close
+    (tie.spec
+    (λ c κs. search needs)
+    returns)

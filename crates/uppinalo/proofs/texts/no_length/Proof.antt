@@ -4,11 +4,12 @@ use borrow.Author.Needs.{needs}
 use Rattle.uppinalo.proofs.texts.no_length.Statement.{statement}
 use Rattle.uppinalo.proofs.texts.no_length.Tie as tie
 
-number-requires : tie.Need-number-requires
-number-requires c κs = search needs
-
 returns : tie.Need-returns
 returns c = λ i. record { number = c .number .ensures i; length = 0 }
 
 pub no-length-spec : {M : Type 1} → statement M
-no-length-spec = tie.close (tie.spec number-requires returns)
+no-length-spec =
+    tie.close
+    (tie.spec
+    (λ c κs. search needs)
+    returns)

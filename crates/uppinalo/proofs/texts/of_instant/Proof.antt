@@ -9,23 +9,20 @@ use borrow.Author.Needs.{needs}
 use Rattle.uppinalo.proofs.texts.of_instant.Statement.{statement}
 use Rattle.uppinalo.proofs.texts.of_instant.Tie as tie
 
-enum-known-a : tie.Need-enum-known-a
-enum-known-a c = search needs
-
 returns : tie.Need-returns
 returns c =
     let t = c .before .a .given .0 .0 in
     (λ i. record { number = 0; instant = toZ-ofZ w64 t (record { sfits = c .known-told .given .0 .1 }) i; exact = true }) ∙ ap ofInstant (sym (c .before .a .given .1))
-
-enum-known-a-2 : tie.Need-enum-known-a-2
-enum-known-a-2 c = search needs
-
-number-requires : tie.Need-number-requires
-number-requires c κs = search needs
 
 returns-2 : tie.Need-returns-2
 returns-2 c = (λ i. record { number = c .number .ensures i; instant = pos 0; exact = false }) ∙ ap ofInstant (sym (c .before .before .a2 .given .1))
 
 pub of-instant-spec : {M : Type 1} → statement M
 of-instant-spec =
-    tie.close (tie.spec enum-known-a returns enum-known-a-2 number-requires returns-2)
+    tie.close
+    (tie.spec
+    (λ c. search needs)
+    returns
+    (λ c. search needs)
+    (λ c κs. search needs)
+    returns-2)

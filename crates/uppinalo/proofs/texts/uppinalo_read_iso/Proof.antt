@@ -5,14 +5,13 @@ use borrow.Author.Needs.{needs}
 use Rattle.uppinalo.proofs.texts.uppinalo_read_iso.Statement.{statement}
 use Rattle.uppinalo.proofs.texts.uppinalo_read_iso.Tie as tie
 
-read-iso-requires : tie.Need-read-iso-requires
-read-iso-requires c κs = search needs
-
-of-instant-requires : tie.Need-of-instant-requires
-of-instant-requires c κs = search needs
-
 returns : tie.Need-returns
 returns c = c .of-instant .ensures ∙ ap ofInstant (c .before .read-iso .ensures)
 
 pub uppinalo-read-iso-spec : {M : Type 1} → statement M
-uppinalo-read-iso-spec = tie.close (tie.spec read-iso-requires of-instant-requires returns)
+uppinalo-read-iso-spec =
+    tie.close
+    (tie.spec
+    (λ c κs. search needs)
+    (λ c κs. search needs)
+    returns)

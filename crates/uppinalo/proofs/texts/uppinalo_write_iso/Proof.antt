@@ -10,32 +10,11 @@ use borrow.Author.Needs.{needs}
 use Rattle.uppinalo.proofs.texts.uppinalo_write_iso.Statement.{statement}
 use Rattle.uppinalo.proofs.texts.uppinalo_write_iso.Tie as tie
 
-calendar-of-requires : tie.Need-calendar-of-requires
-calendar-of-requires c κs = search needs
-
-enum-told : tie.Need-enum-told
-enum-told c = search needs
-
-no-length-requires : tie.Need-no-length-requires
-no-length-requires c κs = search needs
-
 returns : tie.Need-returns
 returns c =
     let a = c .before .before .before .before .before .args in
     let k = sym (c .before .enum-told .given .1) ∙ c .before .before .before .calendar-of .ensures in
     (c .no-length .ensures ∙ ap (λ (x : CodedCalendar). lengthByCode x (a .instant) (a .room .now)) k, ap (λ (x : CodedCalendar). roomByCode x (a .instant) (a .room .now)) k)
-
-enum-known-c : tie.Need-enum-known-c
-enum-known-c c = search needs
-
-write-iso-requires : tie.Need-write-iso-requires
-write-iso-requires c κs = search needs
-
-of-length-requires : tie.Need-of-length-requires
-of-length-requires c κs = search needs
-
-same-length : tie.Need-same-length
-same-length c = search needs
 
 returns-2 : tie.Need-returns-2
 returns-2 c =
@@ -52,12 +31,12 @@ pub uppinalo-write-iso-spec : {M : Type 1} → statement M
 uppinalo-write-iso-spec =
     tie.close
     (tie.spec
-    calendar-of-requires
-    enum-told
-    no-length-requires
+    (λ c κs. search needs)
+    (λ c. search needs)
+    (λ c κs. search needs)
     returns
-    enum-known-c
-    write-iso-requires
-    of-length-requires
-    same-length
+    (λ c. search needs)
+    (λ c κs. search needs)
+    (λ c κs. search needs)
+    (λ c. search needs)
     returns-2)
