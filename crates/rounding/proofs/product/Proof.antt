@@ -26,20 +26,16 @@ mul-t9 c = omega (arith, high-lt (c .args .a) (c .args .b) (c .pre .0) (c .pre .
 add-t11 : tie.Need-add-t11
 add-t11 c = record { fits = sum-lt (c .args .a) (c .args .b) (c .pre .0) (c .pre .1) }
 
+mul-t13 : tie.Need-mul-t13
+mul-t13 c = search needs
+
+add-t15 : tie.Need-add-t15
+add-t15 c = search needs
+
 returns : tie.Need-returns
 returns c = (multiplied (c .args .a) (c .args .b) (c .pre .0) (c .pre .1), add-t15 c .fits)
 
 pub product-spec : {M : Type 1} → statement M
 product-spec =
     tie.close
-    (tie.spec
-    mul-low
-    mul-mid
-    mul-mid-2
-    add-mid
-    add-mid-2
-    mul-t9
-    add-t11
-    (λ c. search needs)
-    (λ c. search needs)
-    returns)
+    (tie.spec mul-low mul-mid mul-mid-2 add-mid add-mid-2 mul-t9 add-t11 mul-t13 add-t15 returns)
