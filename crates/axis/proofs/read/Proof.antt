@@ -7,12 +7,24 @@ use borrow.Author.Needs.{needs}
 use Rattle.axis.proofs.read.Statement.{statement}
 use Rattle.axis.proofs.read.Tie as tie
 
+enum-known-offset : tie.Need-enum-known-offset
+enum-known-offset c = search needs
+
+read-whole-requires : tie.Need-read-whole-requires
+read-whole-requires c κs = search needs
+
 returns : tie.Need-returns
 unfolding readOffset
 returns c =
     let k = c .before .before in
     let a = k .before .before in
     c .read-whole .ensures ∙ (ap (readWholeOn (a .args .axis)) (toZ-ofZ w64 (k .offset .given .0 .0) (record { sfits = c .before .known-told .given .0 .1 })) ∙ sym (ap (readOffset (a .args .axis)) (k .offset .given .1)))
+
+enum-known-offset-2 : tie.Need-enum-known-offset-2
+enum-known-offset-2 c = search needs
+
+read-double-requires : tie.Need-read-double-requires
+read-double-requires c κs = search needs
 
 returns-2 : tie.Need-returns-2
 unfolding readOffset
@@ -25,9 +37,9 @@ pub read-spec : {M : Type 1} → statement M
 read-spec =
     tie.close
     (tie.spec
-    (λ c. search needs)
-    (λ c κs. search needs)
+    enum-known-offset
+    read-whole-requires
     returns
-    (λ c. search needs)
-    (λ c κs. search needs)
+    enum-known-offset-2
+    read-double-requires
     returns-2)

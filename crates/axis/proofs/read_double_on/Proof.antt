@@ -10,6 +10,12 @@ use borrow.Author.Needs.{needs}
 use Rattle.axis.proofs.read_double_on.Statement.{statement}
 use Rattle.axis.proofs.read_double_on.Tie as tie
 
+enum-told : tie.Need-enum-told
+enum-told c = search needs
+
+read-double-requires : tie.Need-read-double-requires
+read-double-requires c κs = search needs
+
 returns : tie.Need-returns
 returns c =
     let a = c .before .before .before .before .args in
@@ -17,16 +23,16 @@ returns c =
     c .read-double .ensures
     ∙ ((λ i. readDouble (a .axis .calendar) (a .axis .period) (toZ-ofZ w64 (a .axis .reference) f i) (a .x)) ∙ ap (λ (m : Mode). doubleIn m (a .axis) (a .x)) (sym (c .before .before .enum-told .given .1)))
 
+enum-told-2 : tie.Need-enum-told-2
+enum-told-2 c = search needs
+
+read-as-whole-requires : tie.Need-read-as-whole-requires
+read-as-whole-requires c κs = search needs
+
 returns-2 : tie.Need-returns-2
 returns-2 c = let a = c .before .before .before .args in c .read-as-whole .ensures ∙ ap (λ (m : Mode). doubleIn m (a .axis) (a .x)) (sym (c .before .enum-told2 .given .1))
 
 pub read-double-on-spec : {M : Type 1} → statement M
 read-double-on-spec =
     tie.close
-    (tie.spec
-    (λ c. search needs)
-    (λ c κs. search needs)
-    returns
-    (λ c. search needs)
-    (λ c κs. search needs)
-    returns-2)
+    (tie.spec enum-told read-double-requires returns enum-told-2 read-as-whole-requires returns-2)

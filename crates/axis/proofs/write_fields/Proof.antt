@@ -33,11 +33,29 @@ told i a e =
     let k = i .before .before .before in
     ap (λ (a : InstantAnswer). ofInstant a (λ (t : ℤ). offsetOn (axis k) t)) (sym e ∙ i .instant-of .ensures) ∙ settled k AxisCheck.Good (i .before .enum-told .given .1)
 
+check-axis-requires : tie.Need-check-axis-requires
+check-axis-requires c κs = search needs
+
+enum-known-r : tie.Need-enum-known-r
+enum-known-r c = search needs
+
 returns : tie.Need-returns
 returns c = settled (c .before .before .before) _ (c .before .r .given .1)
 
+enum-told : tie.Need-enum-told
+enum-told c = search needs
+
+instant-of-requires : tie.Need-instant-of-requires
+instant-of-requires c κs = search needs
+
+enum-known-r-2 : tie.Need-enum-known-r-2
+enum-known-r-2 c = search needs
+
 returns-2 : tie.Need-returns-2
 returns-2 c = told (c .before .before .before) _ (c .before .r2 .given .1)
+
+enum-known-t : tie.Need-enum-known-t
+enum-known-t c = search needs
 
 write-on-requires : tie.Need-write-on-requires
 write-on-requires c κs =
@@ -61,13 +79,13 @@ pub write-fields-spec : {M : Type 1} → statement M
 write-fields-spec =
     tie.close
     (tie.spec
-    (λ c κs. search needs)
-    (λ c. search needs)
+    check-axis-requires
+    enum-known-r
     returns
-    (λ c. search needs)
-    (λ c κs. search needs)
-    (λ c. search needs)
+    enum-told
+    instant-of-requires
+    enum-known-r-2
     returns-2
-    (λ c. search needs)
+    enum-known-t
     write-on-requires
     returns-3)

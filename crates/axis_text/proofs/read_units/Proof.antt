@@ -22,14 +22,35 @@ module _ (d : tie.After-read-units) where
       text-read AxisAnswer.Refused units axisOf _ _ _ _ (sym (d .before .before .calendar .given .1) ∙ k .text-calendar .ensures)
       (units-back _ (d .read-units .result) (d .read-units .ensures) ∙ ap unitsValue e)
 
+text-calendar-requires : tie.Need-text-calendar-requires
+text-calendar-requires c κs = search needs
+
+enum-known-r : tie.Need-enum-known-r
+enum-known-r c = search needs
+
 returns : tie.Need-returns
 unfolding readUnits
 returns c =
     let k = c .before .before .before in
     text-refused AxisAnswer.Refused units axisOf (k .before .before .before .args .name .now) (k .before .before .before .args .text .now) _ (sym (c .before .r .given .1) ∙ k .text-calendar .ensures)
 
+enum-known-calendar : tie.Need-enum-known-calendar
+enum-known-calendar c = search needs
+
+read-units-requires : tie.Need-read-units-requires
+read-units-requires c κs = search needs
+
+enum-known-u : tie.Need-enum-known-u
+enum-known-u c = search needs
+
+enum-told : tie.Need-enum-told
+enum-told c = search needs
+
 returns-2 : tie.Need-returns-2
 returns-2 c = read (c .before .before) _ (c .enum-told .given .1)
+
+axis-of-requires : tie.Need-axis-of-requires
+axis-of-requires c κs = search needs
 
 returns-3 : tie.Need-returns-3
 returns-3 c = let u = c .before .before in c .axis-of .ensures ∙ read (u .before .before) _ (u .u .given .1)
@@ -38,13 +59,13 @@ pub read-units-spec : {M : Type 1} → statement M
 read-units-spec =
     tie.close
     (tie.spec
-    (λ c κs. search needs)
-    (λ c. search needs)
+    text-calendar-requires
+    enum-known-r
     returns
-    (λ c. search needs)
-    (λ c κs. search needs)
-    (λ c. search needs)
-    (λ c. search needs)
+    enum-known-calendar
+    read-units-requires
+    enum-known-u
+    enum-told
     returns-2
-    (λ c κs. search needs)
+    axis-of-requires
     returns-3)

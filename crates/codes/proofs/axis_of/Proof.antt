@@ -9,12 +9,30 @@ use borrow.Author.Needs.{needs}
 use Rattle.codes.proofs.axis_of.Statement.{statement}
 use Rattle.codes.proofs.axis_of.Tie as tie
 
+calendar-of-requires : tie.Need-calendar-of-requires
+calendar-of-requires c κs = search needs
+
+enum-known-calendar : tie.Need-enum-known-calendar
+enum-known-calendar c = search needs
+
+enum-told : tie.Need-enum-told
+enum-told c = search needs
+
 returns : tie.Need-returns
 unfolding codedAxis
 returns c =
     let a = c .before .before .before .args .a in
     let k = sym (c .enum-told .given .1) ∙ c .before .before .calendar-of .ensures in
     λ i. axisWith (k i) (codedPeriod (a .period)) (codedMode (a .mode)) a
+
+period-of-requires : tie.Need-period-of-requires
+period-of-requires c κs = search needs
+
+enum-known-period : tie.Need-enum-known-period
+enum-known-period c = search needs
+
+enum-told-2 : tie.Need-enum-told-2
+enum-told-2 c = search needs
 
 returns-2 : tie.Need-returns-2
 unfolding codedAxis
@@ -23,6 +41,15 @@ returns-2 c =
     let k = (sym (c .before .before .before .before .calendar .given .1) ∙ c .before .before .before .before .before .before .calendar-of .ensures) in
     let p = sym (c .enum-told2 .given .1) ∙ c .before .before .period-of .ensures in
     λ i. axisWith (k i) (p i) (codedMode (a .mode)) a
+
+mode-of-requires : tie.Need-mode-of-requires
+mode-of-requires c κs = search needs
+
+enum-known-mode : tie.Need-enum-known-mode
+enum-known-mode c = search needs
+
+enum-told-3 : tie.Need-enum-told-3
+enum-told-3 c = search needs
 
 returns-3 : tie.Need-returns-3
 unfolding codedAxis
@@ -48,16 +75,16 @@ pub axis-of-spec : {M : Type 1} → statement M
 axis-of-spec =
     tie.close
     (tie.spec
-    (λ c κs. search needs)
-    (λ c. search needs)
-    (λ c. search needs)
+    calendar-of-requires
+    enum-known-calendar
+    enum-told
     returns
-    (λ c κs. search needs)
-    (λ c. search needs)
-    (λ c. search needs)
+    period-of-requires
+    enum-known-period
+    enum-told-2
     returns-2
-    (λ c κs. search needs)
-    (λ c. search needs)
-    (λ c. search needs)
+    mode-of-requires
+    enum-known-mode
+    enum-told-3
     returns-3
     returns-4)

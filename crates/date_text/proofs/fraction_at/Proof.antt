@@ -13,8 +13,17 @@ use Rattle.date_text.proofs.Steps.{fraction-long, fraction-is}
 use Rattle.date_text.proofs.fraction_at.Statement.{statement}
 use Rattle.date_text.proofs.fraction_at.Tie as tie
 
+run-end-requires : tie.Need-run-end-requires
+run-end-requires c κs = search needs
+
 returns : tie.Need-returns
 returns c = run-empty _ _ _ _ (omega arith)
+
+sub-d : tie.Need-sub-d
+sub-d c = search needs
+
+part-d-start : tie.Need-part-d-start
+part-d-start c = search needs
 
 part-d-end : tie.Need-part-d-end
 part-d-end c = let a = c .before .before .before .args in run-end digit (a .s .now) (a .at) (c .before .run-end .result) (c .before .run-end .ensures) (c .if1 .left)
@@ -52,10 +61,10 @@ pub fraction-at-spec : {M : Type 1} → statement M
 fraction-at-spec =
     tie.close
     (tie.spec
-    (λ c κs. search needs)
+    run-end-requires
     returns
-    (λ c. search needs)
-    (λ c. search needs)
+    sub-d
+    part-d-start
     part-d-end
     returns-2
     decimal-of-requires

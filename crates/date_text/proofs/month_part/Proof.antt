@@ -14,8 +14,20 @@ use Rattle.date_text.specs.declared.Time.{Time}
 use Rattle.date_text.proofs.month_part.Statement.{statement}
 use Rattle.date_text.proofs.month_part.Tie as tie
 
+next-in-requires : tie.Need-next-in-requires
+next-in-requires c κs = search needs
+
 add-number-at : tie.Need-add-number-at
 add-number-at c = let a = c .before .before .before .args in let h = starts-lt _ (a .s .now) (a .at) (sym (c .before .next-in .ensures) ∙ c .if1 .taken) in omega arith
+
+number-at-requires : tie.Need-number-at-requires
+number-at-requires c κs = search needs
+
+enum-known-month : tie.Need-enum-known-month
+enum-known-month c = search needs
+
+enum-told : tie.Need-enum-told
+enum-told c = search needs
 
 returns : tie.Need-returns
 returns c =
@@ -36,11 +48,23 @@ part f o e =
     (n .number-at .ensures ∙ ap (numberIn _) (v .month .given .1))
     (f .day-part .ensures ∙ ap (dayIn _) e)
 
+day-part-requires : tie.Need-day-part-requires
+day-part-requires c κs = search needs
+
+enum-known-day : tie.Need-enum-known-day
+enum-known-day c = search needs
+
+enum-told-2 : tie.Need-enum-told-2
+enum-told-2 c = search needs
+
 returns-2 : tie.Need-returns-2
 returns-2 c = part (c .before .before) _ (c .enum-told2 .given .1)
 
 returns-3 : tie.Need-returns-3
 returns-3 c = part (c .before .before .before) _ (c .before .day .given .1)
+
+midnight-utc-requires : tie.Need-midnight-utc-requires
+midnight-utc-requires c κs = search needs
 
 returns-4 : tie.Need-returns-4
 returns-4 c =
@@ -52,16 +76,16 @@ pub month-part-spec : {M : Type 1} → statement M
 month-part-spec =
     tie.close
     (tie.spec
-    (λ c κs. search needs)
+    next-in-requires
     add-number-at
-    (λ c κs. search needs)
-    (λ c. search needs)
-    (λ c. search needs)
+    number-at-requires
+    enum-known-month
+    enum-told
     returns
-    (λ c κs. search needs)
-    (λ c. search needs)
-    (λ c. search needs)
+    day-part-requires
+    enum-known-day
+    enum-told-2
     returns-2
     returns-3
-    (λ c κs. search needs)
+    midnight-utc-requires
     returns-4)

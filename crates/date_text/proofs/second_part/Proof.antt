@@ -12,8 +12,20 @@ use Rattle.date_text.specs.DateRule.{secondPart}
 use Rattle.date_text.proofs.second_part.Statement.{statement}
 use Rattle.date_text.proofs.second_part.Tie as tie
 
+next-in-requires : tie.Need-next-in-requires
+next-in-requires c κs = search needs
+
 add-number-at : tie.Need-add-number-at
 add-number-at c = let a = c .before .before .before .args in let h = starts-lt _ (a .s .now) (a .at) (sym (c .before .next-in .ensures) ∙ c .if1 .taken) in omega arith
+
+number-at-requires : tie.Need-number-at-requires
+number-at-requires c κs = search needs
+
+enum-known-second : tie.Need-enum-known-second
+enum-known-second c = search needs
+
+enum-told : tie.Need-enum-told
+enum-told c = search needs
 
 returns : tie.Need-returns
 returns c =
@@ -34,6 +46,15 @@ part f o e =
     (n .number-at .ensures ∙ ap (numberIn _) (v .second .given .1))
     (f .fraction-part .ensures ∙ ap (numberIn _) e)
 
+fraction-part-requires : tie.Need-fraction-part-requires
+fraction-part-requires c κs = search needs
+
+enum-known-microsecond : tie.Need-enum-known-microsecond
+enum-known-microsecond c = search needs
+
+enum-told-2 : tie.Need-enum-told-2
+enum-told-2 c = search needs
+
 returns-2 : tie.Need-returns-2
 returns-2 c = part (c .before .before) _ (c .enum-told2 .given .1)
 
@@ -47,15 +68,15 @@ pub second-part-spec : {M : Type 1} → statement M
 second-part-spec =
     tie.close
     (tie.spec
-    (λ c κs. search needs)
+    next-in-requires
     add-number-at
-    (λ c κs. search needs)
-    (λ c. search needs)
-    (λ c. search needs)
+    number-at-requires
+    enum-known-second
+    enum-told
     returns
-    (λ c κs. search needs)
-    (λ c. search needs)
-    (λ c. search needs)
+    fraction-part-requires
+    enum-known-microsecond
+    enum-told-2
     returns-2
     returns-3
     returns-4)

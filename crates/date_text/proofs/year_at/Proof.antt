@@ -13,6 +13,15 @@ use Rattle.date_text.proofs.Steps.{year-no, year-is}
 use Rattle.date_text.proofs.year_at.Statement.{statement}
 use Rattle.date_text.proofs.year_at.Tie as tie
 
+number-at-requires : tie.Need-number-at-requires
+number-at-requires c κs = search needs
+
+enum-known-year : tie.Need-enum-known-year
+enum-known-year c = search needs
+
+enum-told : tie.Need-enum-told
+enum-told c = search needs
+
 returns : tie.Need-returns
 returns c = let n = c .before .before in year-no _ _ (n .number-at .ensures ∙ ap (numberIn _) (c .enum-told .given .1))
 
@@ -26,6 +35,15 @@ dated m o e =
     let n = y .before .before in
     year-is _ _ _ _ _ (n .number-at .ensures ∙ ap (numberIn _) (y .year .given .1)) (m .month-part .ensures ∙ ap (monthIn _) e)
 
+month-part-requires : tie.Need-month-part-requires
+month-part-requires c κs = search needs
+
+enum-known-month : tie.Need-enum-known-month
+enum-known-month c = search needs
+
+enum-told-2 : tie.Need-enum-told-2
+enum-told-2 c = search needs
+
 returns-2 : tie.Need-returns-2
 returns-2 c = dated (c .before .before) _ (c .enum-told2 .given .1)
 
@@ -36,12 +54,12 @@ pub year-at-spec : {M : Type 1} → statement M
 year-at-spec =
     tie.close
     (tie.spec
-    (λ c κs. search needs)
-    (λ c. search needs)
-    (λ c. search needs)
+    number-at-requires
+    enum-known-year
+    enum-told
     returns
-    (λ c κs. search needs)
-    (λ c. search needs)
-    (λ c. search needs)
+    month-part-requires
+    enum-known-month
+    enum-told-2
     returns-2
     returns-3)

@@ -25,11 +25,26 @@ yes c = sym (c .before .starts-in .ensures) ∙ c .if1 .taken
 inText : (c : tie.Then1) → c .before .before .before .before .args .at < length (c .before .before .before .before .args .s .now)
 inText c = let a = c .before .before .before .before .args in starts-lt _ (a .s .now) (a .at) (yes c)
 
+slice-aggregate-starts-in : tie.Need-slice-aggregate-starts-in
+slice-aggregate-starts-in c = search needs
+
+starts-in-requires : tie.Need-starts-in-requires
+starts-in-requires c κs = search needs
+
 shared-slice-read-behind : tie.Need-shared-slice-read-behind
 shared-slice-read-behind c = inText (c .before)
 
 add-two-digits : tie.Need-add-two-digits
 add-two-digits c = let h = inText (c .before) in omega arith
+
+two-digits-requires : tie.Need-two-digits-requires
+two-digits-requires c κs = search needs
+
+enum-known-hours : tie.Need-enum-known-hours
+enum-known-hours c = search needs
+
+enum-told : tie.Need-enum-told
+enum-told c = search needs
 
 returns : tie.Need-returns
 returns c =
@@ -49,6 +64,15 @@ offset z o e =
     let a = t .before .before .before .before .args in
     offset-is (a .s .now) (a .at) (yes t) _ _ _ (d .two-digits .ensures ∙ ap (numberIn _) (h .hours .given .1)) (z .zone-minutes .ensures ∙ ap (numberIn _) e)
 
+zone-minutes-requires : tie.Need-zone-minutes-requires
+zone-minutes-requires c κs = search needs
+
+enum-known-minutes : tie.Need-enum-known-minutes
+enum-known-minutes c = search needs
+
+enum-told-2 : tie.Need-enum-told-2
+enum-told-2 c = search needs
+
 returns-2 : tie.Need-returns-2
 returns-2 c = offset (c .before .before) _ (c .enum-told2 .given .1)
 
@@ -62,17 +86,17 @@ pub zone-offset-spec : {M : Type 1} → statement M
 zone-offset-spec =
     tie.close
     (tie.spec
-    (λ c. search needs)
-    (λ c κs. search needs)
+    slice-aggregate-starts-in
+    starts-in-requires
     shared-slice-read-behind
     add-two-digits
-    (λ c κs. search needs)
-    (λ c. search needs)
-    (λ c. search needs)
+    two-digits-requires
+    enum-known-hours
+    enum-told
     returns
-    (λ c κs. search needs)
-    (λ c. search needs)
-    (λ c. search needs)
+    zone-minutes-requires
+    enum-known-minutes
+    enum-told-2
     returns-2
     returns-3
     returns-4)

@@ -24,6 +24,9 @@ loop-holds c = (omega arith, refl)
 shared-slice-read-wide : tie.Need-shared-slice-read-wide Inv-loop μ-loop
 shared-slice-read-wide c = omega arith
 
+wide-requires : tie.Need-wide-requires Inv-loop μ-loop
+wide-requires c κs = search needs
+
 -- in a turn: the byte is a digit's, the next value makes the same number with the digits that are then left, and the number is small
 record Turn (d : List ℕ) (v i b : ℕ) : Type 0 where
   low : 48 ≤ b
@@ -80,7 +83,7 @@ decimal-of-spec =
     μ-loop
     loop-holds
     shared-slice-read-wide
-    (λ c κs. search needs)
+    wide-requires
     mul-v
     sub-v
     add-v

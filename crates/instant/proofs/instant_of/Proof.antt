@@ -53,11 +53,26 @@ settled n e =
     let f = n .before .before .before .before .args .f in
     ap (λ (b : Bool). cond b (InstantAnswer.Is (instantAt (n .n .given .0 .0) (clockTime f))) (InstantAnswer.Refused NoSuchDate)) (sym e) ∙ ap (λ (a : DayAnswer). withClock a f) (told n)
 
+day-of-date-requires : tie.Need-day-of-date-requires
+day-of-date-requires c κs = search needs
+
+enum-known-r : tie.Need-enum-known-r
+enum-known-r c = search needs
+
 returns : tie.Need-returns
 unfolding instantAnswer
 returns c =
     let d = c .before .before .before in
     ap (λ (a : DayAnswer). withClock a (d .before .before .args .f)) (sym (c .before .r .given .1) ∙ day-is d)
+
+enum-known-n : tie.Need-enum-known-n
+enum-known-n c = search needs
+
+is-clock-requires : tie.Need-is-clock-requires
+is-clock-requires c κs = search needs
+
+clock-time-requires : tie.Need-clock-time-requires
+clock-time-requires c κs = search needs
 
 instant-at-requires : tie.Need-instant-at-requires
 instant-at-requires c κs = (
@@ -78,12 +93,12 @@ pub instant-of-spec : {M : Type 1} → statement M
 instant-of-spec =
     tie.close
     (tie.spec
-    (λ c κs. search needs)
-    (λ c. search needs)
+    day-of-date-requires
+    enum-known-r
     returns
-    (λ c. search needs)
-    (λ c κs. search needs)
-    (λ c κs. search needs)
+    enum-known-n
+    is-clock-requires
+    clock-time-requires
     instant-at-requires
     returns-2
     returns-3)

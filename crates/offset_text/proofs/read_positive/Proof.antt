@@ -22,16 +22,34 @@ use Rattle.offset_text.proofs.read_positive.Tie as tie
 found : (d : tie.After-decimal-of) {r : Number} → d .decimal-of .result ≡ r → read (number 19) (d .before .before .args .s .now) ≡ digitsIn r
 found d e = d .decimal-of .ensures ∙ ap digitsIn e
 
+decimal-of-requires : tie.Need-decimal-of-requires
+decimal-of-requires c κs = search needs
+
+enum-known-n : tie.Need-enum-known-n
+enum-known-n c = search needs
+
+enum-told : tie.Need-enum-told
+enum-told c = search needs
+
 returns : tie.Need-returns
 returns c =
     let d = c .before .before in
     sym (ap offsetAnswer (whole-none _ _ (d .before .before .args .s .now) (found d (c .enum-told .given .1))))
+
+sub-if1 : tie.Need-sub-if1
+sub-if1 c = search needs
 
 returns-2 : tie.Need-returns-2
 returns-2 c =
     let k = c .before .before in
     let d = k .before .before in
     sym (ap offsetAnswer (whole-large _ _ (d .before .before .args .s .now) _ (found d (k .n .given .1)) (omega arith)))
+
+add-unbiased : tie.Need-add-unbiased
+add-unbiased c = search needs
+
+unbiased-requires : tie.Need-unbiased-requires
+unbiased-requires c κs = search needs
 
 returns-3 : tie.Need-returns-3
 returns-3 c =
@@ -46,12 +64,12 @@ pub read-positive-spec : {M : Type 1} → statement M
 read-positive-spec =
     tie.close
     (tie.spec
-    (λ c κs. search needs)
-    (λ c. search needs)
-    (λ c. search needs)
+    decimal-of-requires
+    enum-known-n
+    enum-told
     returns
-    (λ c. search needs)
+    sub-if1
     returns-2
-    (λ c. search needs)
-    (λ c κs. search needs)
+    add-unbiased
+    unbiased-requires
     returns-3)

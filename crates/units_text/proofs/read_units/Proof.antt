@@ -11,11 +11,29 @@ use Rattle.units_text.proofs.Steps.{units-mode, units-period, units-is}
 use Rattle.units_text.proofs.read_units.Statement.{statement}
 use Rattle.units_text.proofs.read_units.Tie as tie
 
+mode-at-requires : tie.Need-mode-at-requires
+mode-at-requires c κs = search needs
+
+enum-known-mode : tie.Need-enum-known-mode
+enum-known-mode c = search needs
+
+enum-told : tie.Need-enum-told
+enum-told c = search needs
+
 returns : tie.Need-returns
 returns c =
     let m = c .before .before in
     let a = m .before .before .args in
     sym (ap unitsAnswer (read-no units (a .s .now) (units-mode _ (m .mode-at .ensures ∙ ap (modeIn _) (c .enum-told .given .1)))))
+
+period-at-requires : tie.Need-period-at-requires
+period-at-requires c κs = search needs
+
+enum-known-period : tie.Need-enum-known-period
+enum-known-period c = search needs
+
+enum-told-2 : tie.Need-enum-told-2
+enum-told-2 c = search needs
 
 returns-2 : tie.Need-returns-2
 returns-2 c =
@@ -37,6 +55,15 @@ scanned d o e =
     let k = p .before .before in
     let m = k .before .before in
     units-is _ _ _ (m .mode-at .ensures ∙ ap (modeIn _) (k .mode .given .1)) _ _ _ (p .period-at .ensures ∙ ap (periodIn _) (q .period .given .1)) (d .since-at .ensures ∙ ap (writtenIn _) e)
+
+since-at-requires : tie.Need-since-at-requires
+since-at-requires c κs = search needs
+
+enum-known-reference : tie.Need-enum-known-reference
+enum-known-reference c = search needs
+
+enum-told-3 : tie.Need-enum-told-3
+enum-told-3 c = search needs
 
 returns-3 : tie.Need-returns-3
 returns-3 c =
@@ -62,17 +89,17 @@ pub read-units-spec : {M : Type 1} → statement M
 read-units-spec =
     tie.close
     (tie.spec
-    (λ c κs. search needs)
-    (λ c. search needs)
-    (λ c. search needs)
+    mode-at-requires
+    enum-known-mode
+    enum-told
     returns
-    (λ c κs. search needs)
-    (λ c. search needs)
-    (λ c. search needs)
+    period-at-requires
+    enum-known-period
+    enum-told-2
     returns-2
-    (λ c κs. search needs)
-    (λ c. search needs)
-    (λ c. search needs)
+    since-at-requires
+    enum-known-reference
+    enum-told-3
     returns-3
     returns-4
     returns-5)

@@ -25,6 +25,9 @@ loop-holds c = (omega arith, refl)
 shared-slice-read-wide : tie.Need-shared-slice-read-wide Inv-loop μ-loop
 shared-slice-read-wide c = omega arith
 
+wide-requires : tie.Need-wide-requires Inv-loop μ-loop
+wide-requires c κs = search needs
+
 -- in a turn: the next value makes the same number with the bytes that are then left, and the number fits
 record Turn (d : List ℕ) (v i b : ℕ) : Type 0 where
   next : numeral 256 0 (v * 256 + b) (drop (i + 1) d) ≡ packed d
@@ -70,7 +73,7 @@ packed-of-spec =
     μ-loop
     loop-holds
     shared-slice-read-wide
-    (λ c κs. search needs)
+    wide-requires
     mul-v
     add-v
     add-i
