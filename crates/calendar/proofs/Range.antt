@@ -72,6 +72,12 @@ module _ (r : CalendarRow) (h : Cutover r) where
       let y = firstYear (r .zero) in
       omega (arith, first-two (r .zero), year-least (r .early) y, year-most (r .early) y, h .lag-small, year-least (r .late) 11970, year-most (r .late) 11970, year-least (r .late) 20000, year-most (r .late) 20000)
 
+  pub row-wide : let k = countedRow r in (rowStart k + 4000000 ≤ rowEpoch k) × (rowEpoch k + 2800000 < rowEnd k)
+  unfolding rowEpoch rowStart rowEnd
+  row-wide =
+      let y = firstYear (r .zero) in
+      omega (arith, first-two (r .zero), year-most (r .early) y, year-least (r .late) 11970, year-most (r .late) 11970, year-least (r .late) 20000)
+
   -- the numbers by the count of the early rule
   abbrev l : ℕ
   l = lag (countedRow r)
@@ -172,6 +178,9 @@ highDay c = subℕ (endDay c - 1) (epochDay c)
 
 pub small : (c : Calendar) → (0 < firstDay c) × ((firstDay c < epochDay c) × ((epochDay c < endDay c) × ((endDay c < epochDay c + 5000000) × (epochDay c < 5000000))))
 small c = row-small (rowOf c) (cutover c)
+
+pub wide : (c : Calendar) → (firstDay c + 4000000 ≤ epochDay c) × (epochDay c + 2800000 < endDay c)
+wide c = row-wide (rowOf c) (cutover c)
 
 pub range : (c : Calendar) (z : ℤ) → inYears (dateOf c z .year) ≡ (leZ (lowDay c) z && leZ z (highDay c))
 unfolding dateOf

@@ -1,18 +1,20 @@
 -- The range: the years -9999 to 9999 of a calendar are the instants of an interval, which lies within five million days of 1970.
-use mathlib.Core.Path.{_≡_, sym, ap, _∙_, subst}
-use mathlib.Core.Bool.{true, _&&_}
-use Prim.Native.Nat.{ℕ, _+_, _-_, _*_, _/_, _≤_, _<_}
+use mathlib.Core.Path.{_≡_, refl, sym, ap, _∙_, subst}
+use mathlib.Core.Bool.{Bool, true, false, not, _&&_, and-true}
+use Prim.Native.Nat.{ℕ, suc, _+_, _-_, _*_, _/_, _≤_, _<_}
 use native.Mathlib.Omega.{arith}
 use lib.Dec.{leb}
 use lib.IntN.{ℤ, pos, negsuc}
-use lib.Signed.{mag, leZ}
+use lib.Signed.{mag, leZ, ltZ}
 use borrow.Author.Tests.{le-leb, lt-leb, leb-true, leb-false}
 use Rattle.signed.specs.Bias.{unbiased}
 use Rattle.signed.proofs.Tests.{test-is, both, and-parts}
-use Rattle.signed.proofs.Order.{le-trans}
-use Rattle.signed.proofs.Differences.{common, by-sign, sub-le, times-plus}
+use Rattle.signed.proofs.Order.{le-of-lt, lt-trans, le-trans}
+use Rattle.signed.proofs.Integers.{leZ-not}
+use Rattle.signed.proofs.Differences.{common, by-sign, sub-low, sub-high, sub-le, times-plus}
 use Rattle.calendar.specs.declared.Calendar.{Calendar}
-use Rattle.calendar.proofs.Range.{lowDay, highDay}
+use Rattle.calendar.specs.Closed.{epochDay, firstDay, endDay}
+use Rattle.calendar.proofs.Range.{wide, lowDay, highDay}
 use Rattle.calendar.proofs.Theorems as Theorems
 use Rattle.instant.specs.Instant.{dayOf, timeOf, instantAt, inRange}
 use Rattle.instant.specs.Closed.{firstInstant, lastInstant}
@@ -41,6 +43,39 @@ range c t =
     let first : leZ (lowDay c) (dayOf t) ≡ leZ (firstInstant c) t = sym (at-le (lowDay c) (dayOf t) 0 (timeOf t) (omega arith) s) ∙ ap (leZ (firstInstant c)) (day-and-time t) in
     let last : leZ (dayOf t) (highDay c) ≡ leZ t (lastInstant c) = sym (at-le (dayOf t) (highDay c) (timeOf t) 86399999999 (omega arith) (omega arith)) ∙ ap (λ (z : ℤ). leZ z (lastInstant c)) (day-and-time t) in
     Theorems.range c (dayOf t) ∙ (λ i. first i && last i)
+
+-- ---- from 4000000 days before 1970 to 2800000 days after it the instants of every calendar are of the range
+abbrev pub lo : ℤ
+lo = instantAt (negsuc 3999999) 0
+
+abbrev pub hi : ℤ
+hi = instantAt (pos 2800000) 0
+
+first-le : (c : Calendar) → leZ (firstInstant c) lo ≡ true
+first-le c =
+    at-le (lowDay c) (negsuc 3999999) 0 0 (omega arith) (omega arith)
+    ∙ (ap (λ (z : ℤ). leZ z (negsuc 3999999)) (sub-low (firstDay c) (epochDay c) (omega (arith, wide c))) ∙ le-leb 3999999 (epochDay c - suc (firstDay c)) (omega (arith, wide c)))
+
+le-last : (c : Calendar) → leZ hi (lastInstant c) ≡ true
+le-last c =
+    at-le (pos 2800000) (highDay c) 0 86399999999 (omega arith) (omega arith)
+    ∙ (ap (leZ (pos 2800000)) (sub-high (endDay c - 1) (epochDay c) (omega (arith, wide c))) ∙ le-leb 2800000 (endDay c - 1 - epochDay c) (omega (arith, wide c)))
+
+module _ (c : Calendar) (t : ℤ) where
+  not-late : ltZ t hi ≡ true → leZ t (lastInstant c) ≡ true
+  not-late h = le-trans t hi (lastInstant c) (le-of-lt t hi h) (le-last c)
+
+  not-early : ltZ t lo ≡ false → leZ (firstInstant c) t ≡ true
+  not-early h = le-trans (firstInstant c) lo t (first-le c) (leZ-not lo t ∙ ap not h)
+
+  pub early : ltZ t lo ≡ true → inRange c t ≡ leZ (firstInstant c) t
+  early h = range c t ∙ (ap (λ (b : Bool). leZ (firstInstant c) t && b) (not-late (lt-trans t lo hi h refl)) ∙ and-true (leZ (firstInstant c) t))
+
+  pub middle : ltZ t lo ≡ false → ltZ t hi ≡ true → inRange c t ≡ true
+  middle h g = range c t ∙ both (leZ (firstInstant c) t) (leZ t (lastInstant c)) (not-early h) (not-late g)
+
+  pub late : ltZ t lo ≡ false → inRange c t ≡ leZ t (lastInstant c)
+  late h = range c t ∙ ap (λ (b : Bool). b && leZ t (lastInstant c)) (not-early h)
 
 -- an instant between two of the range is of the range
 pub between : (c : Calendar) (a t b : ℤ) → leZ a t ≡ true → leZ t b ≡ true → inRange c a ≡ true → inRange c b ≡ true → inRange c t ≡ true

@@ -13,13 +13,13 @@ use Rattle.signed.proofs.Differences.{Common, common, by-sign, sub-low, sub-hig
 use Rattle.signed.proofs.Lexicographic.{lexicographic}
 use Rattle.calendar.specs.Calendar.{dateOf, inYears}
 use Rattle.calendar.specs.Order.{earlier, sameDate}
-use Rattle.calendar.specs.Answers.{dateAnswer, dayAnswer}
+use Rattle.calendar.specs.Answers.{dayAnswer}
 use Rattle.calendar.specs.declared.Calendar.{Calendar}
 use Rattle.calendar.specs.declared.Date.{Date}
 use Rattle.calendar.specs.declared.DateAnswer.{DateAnswer}
 use Rattle.calendar.specs.declared.DayAnswer.{DayAnswer}
 use Rattle.calendar.proofs.Numbering.{same-of, same-self}
-use Rattle.calendar.proofs.Answering.{in-range, date-there}
+use Rattle.calendar.proofs.Answering.{in-range, out-of-range, date-there}
 use Rattle.calendar.proofs.Theorems.{order, one-day, dates-exist, answered}
 use Rattle.instant.specs.Instant.{dayOf, timeOf, inRange, fieldsAt, withTime, fieldsAnswer, dateIn, isClock, clockTime, withClock, instantAnswer}
 use Rattle.instant.specs.Order.{earlierClock, earlierFields}
@@ -100,12 +100,14 @@ module _ (c : Calendar) (t : ℤ) where
     pub is : fieldsAt (dateOf c (dayOf t)) (timeOf t) ≡ f
 
   pub shown : (f : Fields) → fieldsAnswer c t ≡ FieldsAnswer.Is f → Shown f
-  unfolding fieldsAnswer dateAnswer
-  shown f = go (inRange c t) refl
+  unfolding fieldsAnswer
+  shown f h = go (inRange c t) refl
     where
-      go : (b : Bool) → inRange c t ≡ b → withTime (cond b (DateAnswer.Is (dateOf c (dayOf t))) (DateAnswer.Refused OutOfRange)) (timeOf t) ≡ FieldsAnswer.Is f → Shown f
-      go true e h = record { inside = e; is = (cc) }
-      go false e h = absurd (let y : _≡_ {A = ℕ} 0 1 = (cc) in omega arith)
+      go : (b : Bool) → inRange c t ≡ b → Shown f
+      go true e = record { inside = e; is = (cc (ap (λ (a : DateAnswer). withTime a (timeOf t)) (in-range c (dayOf t) e) ∙ h)) }
+      go false e =
+          let k : FieldsAnswer.Refused OutOfRange ≡ FieldsAnswer.Is f = ap (λ (a : DateAnswer). withTime a (timeOf t)) (out-of-range c (dayOf t) e) ∙ h in
+          absurd (let y : _≡_ {A = ℕ} 0 1 = (cc) in omega arith)
 
 -- the day number and the time of fields whose instant is given
 module _ (c : Calendar) (f : Fields) (t : ℤ) where

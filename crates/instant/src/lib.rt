@@ -96,12 +96,15 @@ pub fn last_instant(c: Calendar) -> i64
     instant_on(c, calendar::end_day(c) - 1, 86399999999)
 }
 
-// Whether an instant lies in the years -9999 to 9999.
+// Whether an instant lies in the years -9999 to 9999. From 4000000 days before 1970 to 2800000 days after it they do in every calendar.
 pub fn in_range(c: Calendar, t: i64) -> bool
     ensures { λ b. ⌜ b ≡ inRange c t ⌝ }
 {
-    if t < first_instant(c) {
-        return false;
+    if t < -345600000000000000 {
+        return first_instant(c) <= t;
+    }
+    if t < 241920000000000000 {
+        return true;
     }
     return t <= last_instant(c);
 }
