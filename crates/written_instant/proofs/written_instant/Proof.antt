@@ -13,17 +13,17 @@ use Rattle.written_instant.proofs.written_instant.Statement.{statement}
 use Rattle.written_instant.proofs.written_instant.Tie as tie
 
 -- the answer is that of the local fields
-answer : (i : tie.After-instant-of) → i .instant-of .result ≡ instantAnswer (i .before .before .before .before .args .c) (localFields (i .before .before .before .before .args .w))
+answer : (i : tie.After-instant-of) → i .instant-of .result ≡ instantAnswer (i .before .before .before .before .before .args .c) (localFields (i .before .before .before .before .before .args .w))
 answer i =
     let s = i .before in
-    let a = s .before .before .before .args in
+    let a = s .before .before .before .before .args in
     i .instant-of .ensures ∙ ap (λ (y : ℤ). instantAnswer (a .c) (withYear y (a .w))) (toZ-ofZ w64 (s .signed-size .result) (record { sfits = s .signed-size .ok }) ∙ s .signed-size .ensures)
 
 returns : tie.Need-returns
 unfolding writtenInstant
 returns c =
     let i = c .before .before .before in
-    let a = i .before .before .before .before .args in
+    let a = i .before .before .before .before .before .args in
     ap (lessZone (a .c) (a .w .time .zone)) (sym (c .before .r .given .1) ∙ answer i)
 
 -- the local instant, as it is passed on
@@ -33,20 +33,21 @@ local k = toZ-ofZ w64 (k .before .u .given .0 .0) (record { sfits = k .known-tol
 less-zone-requires : tie.Need-less-zone-requires
 less-zone-requires c κs =
     let i = c .before .before .before in
-    let a = i .before .before .before .before .args in
+    let a = i .before .before .before .before .before .args in
     ap (inRange (a .c)) (local c) ∙ local-range (a .c) (localFields (a .w)) _ (sym (answer i) ∙ c .before .u .given .1)
 
 returns-2 : tie.Need-returns-2
 unfolding writtenInstant
 returns-2 c =
     let i = c .before .before .before .before in
-    let a = i .before .before .before .before .args in
+    let a = i .before .before .before .before .before .args in
     c .less-zone .ensures ∙ ap (lessZone (a .c) (a .w .time .zone)) (ap InstantAnswer.Is (local (c .before)) ∙ (sym (c .before .before .u .given .1) ∙ answer i))
 
 pub written-instant-spec : {M : Type 1} → statement M
 written-instant-spec =
     tie.close
     (tie.spec
+    (λ c. search needs)
     (λ c κs. search needs)
     (λ c κs. search needs)
     (λ c. search needs)
