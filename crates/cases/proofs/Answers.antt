@@ -1,5 +1,5 @@
 -- The answers of the calls, known for all inputs, from the dates and day numbers of Days.antt.
-use mathlib.Core.Path.{_≡_, sym, _∙_}
+use mathlib.Core.Path.{_≡_}
 use mathlib.Core.Bool.{Bool, true, cond}
 use mathlib.Core.List.{List}
 use mathlib.Core.Option.{Option, none, some}
@@ -9,7 +9,6 @@ use lib.IntN.{ℤ, _-ℤ_}
 use lib.Ieee.{Float, nan, inf, fin}
 use Rattle.refusal.specs.declared.Refusal.{Refusal}
 use Rattle.calendar.specs.Calendar.{times, yearAfter, yearBefore}
-use Rattle.calendar.specs.Answers.{dayAnswer}
 use Rattle.calendar.specs.declared.Calendar.{Calendar}
 use Rattle.calendar.specs.declared.Date.{Date}
 use Rattle.calendar.specs.declared.DateAnswer.{DateAnswer}
@@ -17,22 +16,21 @@ use Rattle.calendar.specs.declared.DayAnswer.{DayAnswer}
 use Rattle.axis_types.specs.Lengths.{lengthOf}
 use Rattle.axis_types.specs.declared.Mode.{Mode}
 use Rattle.axis_types.specs.declared.Period.{Period}
-use Rattle.instant.specs.Instant.{dayOf, timeOf, inRange, withTime, fieldsAnswer, dateIn, clockTime, withClock, instantAnswer}
+use Rattle.instant.specs.Instant.{dayOf, timeOf, inRange, withTime, fieldsAnswer, dateIn, withClock, instantAnswer}
 use Rattle.instant.specs.declared.Fields.{Fields}
 use Rattle.instant.specs.declared.FieldsAnswer.{FieldsAnswer}
 use Rattle.instant.specs.declared.InstantAnswer.{InstantAnswer}
-use Rattle.double.specs.Nearest.{distance}
-use Rattle.double.specs.Reading.{nearestCount}
+use Rattle.double.specs.Nearest.{distance, nearestCount}
 use Rattle.double.specs.Whole.{wholeOf}
-use Rattle.axis_types.specs.declared.Reading.{Reading}
 use Rattle.double.specs.declared.whole.Whole.{Whole}
-use Rattle.step.specs.Months.{downTo, monthAfter, monthBefore, monthsAfter, steps, yearsAfter}
-use Rattle.step.specs.Answers.{dateFrom, within}
-use Rattle.fixed_axis.specs.Fixed.{timeAfter, fromReference, readingAt, readWhole, readFloat, readDouble}
-use Rattle.axis.specs.Axis.{stepOf, onDay, onDate, readMoved, readStep, asWhole, doubleAsWhole, wholeIn, doubleIn, readWholeOn, readDoubleOn, readOffset}
+use Rattle.step.specs.Steps.{dateAfter, downTo, stepAfter, stepBefore, steps}
+use Rattle.fixed_axis.specs.Fixed.{timeAfter, readingAt, readWhole, readDouble}
+use Rattle.calendar_axis.specs.Steps.{onDay, readFrom, readSteps}
 use Rattle.axis_types.specs.declared.Offset.{Offset}
+use Rattle.axis_types.specs.declared.Reading.{Reading}
+use Rattle.axis.specs.Axis.{axisCheck, onGood, stepOn, readBy, asWhole, doubleIn, readWholeOn, readDoubleOn, readOffset}
+use Rattle.axis.specs.declared.AxisCheck.{AxisCheck}
 use Rattle.axis.specs.declared.Step.{Step}
-use Rattle.axis.proofs.Moving.{moved-in, moved-out}
 use Rattle.axis_types.specs.declared.Axis.{Axis}
 use Rattle.axis_text.specs.Units.{axisAt, axisOf, readUnits}
 use Rattle.axis_text.specs.declared.AxisAnswer.{AxisAnswer}
@@ -48,8 +46,8 @@ use Rattle.written_instant.specs.Instants.{localFields, isZone, ahead, lessZone
 use Rattle.named_text.specs.declared.TextCalendar.{TextCalendar}
 use Rattle.named_text.specs.Texts.{textCalendar, inCalendar, readText}
 use Rattle.cases.specs.Cases.{Answer, textAnswer, readingAnswer, axisAnswer, Case, answerOf}
-use Rattle.cases.proofs.Known.{Known, itself, applied, through}
-use Rattle.cases.proofs.Days.{inYearsKnown, dateAnswerKnown, dayAnswerKnown}
+use Rattle.cases.proofs.Known.{Known, itself, applied, through, tested, chosen}
+use Rattle.cases.proofs.Days.{dateOfKnown, inYearsKnown, dateAnswerKnown, dayAnswerKnown}
 
 -- `fKnown` is what is known of the definition f. What its value needs to compute stands on its `unfolding` line.
 
@@ -73,7 +71,7 @@ module _ (c : Calendar) where
   unfolding inRangeKnown
   lessZoneKnown z (InstantAnswer.Is t) =
       let u = t -ℤ ahead z in
-      applied (λ (b : Bool). cond (isZone z) (cond b (InstantAnswer.Is u) (InstantAnswer.Refused Refusal.OutOfRange)) (InstantAnswer.Refused Refusal.NoSuchDate)) (inRangeKnown c u)
+      chosen (itself (isZone z)) (λ h. chosen (inRangeKnown c u) (λ g. itself (InstantAnswer.Is u)) (InstantAnswer.Refused Refusal.OutOfRange)) (InstantAnswer.Refused Refusal.NoSuchDate)
   lessZoneKnown z (InstantAnswer.Refused r) = itself (InstantAnswer.Refused r)
 
   unfoldable pub writtenInstantKnown : (w : WrittenDate) → Known (writtenInstant c w)
@@ -96,69 +94,50 @@ readUnitsKnown name text = inCalendarKnown (textCalendar name text) (read units 
 
 -- ---- the reading of an offset
 module _ (c : Calendar) where
-  unfoldable pub fromReferenceKnown : (R : ℤ) {r : Reading} → Known r → Known (fromReference c R r)
-  unfolding inRangeKnown
-  fromReferenceKnown R k =
-      let inside = inRangeKnown c R in
-      record { value = cond (inside .value) (k .value) (Reading.Refused Refusal.OutOfRange); is = λ i. cond (inside .is i) (k .is i) (Reading.Refused Refusal.OutOfRange) }
-
   unfoldable pub readingAtKnown : (z : ℤ) (exact : Bool) → Known (readingAt c z exact)
   unfolding inRangeKnown
-  readingAtKnown z exact = applied (λ (b : Bool). cond b (Reading.At z exact) (Reading.Refused Refusal.OutOfRange)) (inRangeKnown c z)
-
-  unfoldable pub onDateKnown : (s : ℕ) (d : DateAnswer) → Known (onDate c d s)
-  unfolding dayAnswerKnown
-  onDateKnown s (DateAnswer.Is d) = applied (λ (a : DayAnswer). onDay a s) (dayAnswerKnown c d)
-  onDateKnown s (DateAnswer.Refused r) = itself (Reading.Refused r)
-
-  -- in calendar mode, from the fields of the reference
-  unfoldable pub movedFrom : (moved : Date → Date) (R : ℤ) (a : FieldsAnswer) → fieldsAnswer c R ≡ a → Known (readMoved c moved R)
-  unfolding onDateKnown dayAnswerKnown
-  movedFrom moved R (FieldsAnswer.Is f) h =
-      let k = through (λ (d : DateAnswer). onDate c d (clockTime f)) (onDateKnown (clockTime f)) (applied (λ (a : DayAnswer). dateFrom a (within (moved (dateIn f)))) (dayAnswerKnown c (dateIn f))) in
-      record { value = k .value; is = sym (moved-in c moved R f h) ∙ k .is }
-  movedFrom moved R (FieldsAnswer.Refused r) h = record { value = Reading.Refused r; is = sym (moved-out c moved R r h) }
-
-  unfoldable pub readMovedKnown : (moved : Date → Date) (R : ℤ) → Known (readMoved c moved R)
-  unfolding movedFrom fieldsAnswerKnown
-  readMovedKnown moved R = movedFrom moved R (fieldsAnswerKnown c R .value) (fieldsAnswerKnown c R .is)
+  readingAtKnown z exact = chosen (inRangeKnown c z) (λ h. itself (Reading.At z exact)) (Reading.Refused Refusal.OutOfRange)
 
 module _ (c : Calendar) (p : Period) (R : ℤ) where
   unfoldable pub readWholeKnown : (n : ℤ) → Known (readWhole c p R n)
-  unfolding readWhole fromReferenceKnown readingAtKnown
-  readWholeKnown n = fromReferenceKnown c R (readingAtKnown c (timeAfter p R n) true)
+  unfolding readWhole readingAtKnown
+  readWholeKnown n = readingAtKnown c (timeAfter p R n) true
 
-  unfoldable pub readFloatKnown : (x : Float) → Known (readFloat c p R x)
-  unfolding readingAtKnown distance
-  readFloatKnown nan = itself (Reading.Refused Refusal.NotFinite)
-  readFloatKnown (inf s) = itself (Reading.Refused Refusal.NotFinite)
-  readFloatKnown (fin s m e) = let z = nearestCount R (lengthOf p) s m e in readingAtKnown c z (eqb (distance R (lengthOf p) s m e z) 0)
+  unfoldable pub readDoubleKnown : (x : Float) → Known (readDouble c p R x)
+  unfolding readDouble readingAtKnown distance
+  readDoubleKnown nan = itself (Reading.Refused Refusal.NotFinite)
+  readDoubleKnown (inf s) = itself (Reading.Refused Refusal.NotFinite)
+  readDoubleKnown (fin s m e) = let z = nearestCount R (lengthOf p) s m e in readingAtKnown c z (eqb (distance R (lengthOf p) s m e z) 0)
 
-  unfoldable pub readStepKnown : (s : Step) (n : ℤ) → Known (readStep s c p R n)
-  unfolding readWholeKnown readMovedKnown monthsAfter yearsAfter monthAfter monthBefore yearAfter yearBefore steps times downTo
-  readStepKnown Step.Time n = readWholeKnown n
-  readStepKnown Step.Months n = readMovedKnown c (monthsAfter c n) R
-  readStepKnown Step.Years n = readMovedKnown c (yearsAfter c n) R
+  -- in calendar mode the reference has a date, since it lies in the range
+  module _ (h : inRange c R ≡ true) where
+    unfoldable pub readByKnown : (s : Step) (n : ℤ) → Known (readBy s c p R n)
+    unfolding readWholeKnown readSteps dateOfKnown dayAnswerKnown dayOf timeOf dateAfter stepAfter stepBefore steps times yearAfter yearBefore downTo
+    readByKnown Step.Time n = readWholeKnown n
+    readByKnown (Step.Date part) n =
+        through (λ (x : Date). readFrom part c x (timeOf R) n) (λ (x : Date). applied (λ (a : DayAnswer). onDay a (timeOf R)) (dayAnswerKnown c (dateAfter part c n x))) (dateOfKnown c (dayOf R) h)
 
-  unfoldable pub asWholeKnown : (w : Whole) → Known (asWhole w (readStep (stepOf p) c p R))
-  unfolding readStepKnown
-  asWholeKnown (Whole.Is n) = readStepKnown (stepOf p) n
-  asWholeKnown (Whole.Refused r) = itself (Reading.Refused r)
+    unfoldable pub asWholeKnown : (s : Step) (w : Whole) → Known (asWhole w (readBy s c p R))
+    unfolding readByKnown
+    asWholeKnown s (Whole.Is n) = readByKnown s n
+    asWholeKnown s (Whole.Refused r) = itself (Reading.Refused r)
 
-  unfoldable pub wholeInKnown : (m : Mode) (n : ℤ) → Known (wholeIn m c p R n)
-  unfolding readWholeKnown readStepKnown
-  wholeInKnown Mode.Fixed n = readWholeKnown n
-  wholeInKnown Mode.Calendar n = readStepKnown (stepOf p) n
+module _ (a : Axis) where
+  unfoldable pub doubleInKnown : (m : Mode) (x : Float) → inRange (a .calendar) (a .reference) ≡ true → Known (doubleIn m a x)
+  unfolding readDoubleKnown asWholeKnown wholeOf
+  doubleInKnown Mode.Fixed x h = readDoubleKnown (a .calendar) (a .period) (a .reference) x
+  doubleInKnown Mode.Calendar x h = asWholeKnown (a .calendar) (a .period) (a .reference) h (stepOn a) (wholeOf x)
 
-  unfoldable pub doubleInKnown : (m : Mode) (x : Float) → Known (doubleIn m c p R x)
-  unfolding readDouble doubleAsWhole fromReferenceKnown readFloatKnown asWholeKnown wholeOf
-  doubleInKnown Mode.Fixed x = fromReferenceKnown c R (readFloatKnown x)
-  doubleInKnown Mode.Calendar x = fromReferenceKnown c R (asWholeKnown (wholeOf x))
+  -- a reading on the axis, known where the axis is good
+  unfoldable pub onGoodKnown : {r : Reading} → (inRange (a .calendar) (a .reference) ≡ true → Known r) → Known (onGood (axisCheck a) Reading.Refused r)
+  unfolding axisCheck inRangeKnown
+  onGoodKnown {r} k =
+      tested (λ (b : Bool). onGood (cond b AxisCheck.Good (AxisCheck.Refused Refusal.OutOfRange)) Reading.Refused r) (inRangeKnown (a .calendar) (a .reference)) k (λ h. itself (Reading.Refused Refusal.OutOfRange))
 
-unfoldable pub readOffsetKnown : (a : Axis) (o : Offset) → Known (readOffset a o)
-unfolding readOffset readWholeOn readDoubleOn wholeInKnown doubleInKnown
-readOffsetKnown a (Offset.Whole n) = wholeInKnown (a .calendar) (a .period) (a .reference) (a .mode) n
-readOffsetKnown a (Offset.Double x) = doubleInKnown (a .calendar) (a .period) (a .reference) (a .mode) x
+  unfoldable pub readOffsetKnown : (o : Offset) → Known (readOffset a o)
+  unfolding readOffset readWholeOn readDoubleOn onGoodKnown readByKnown doubleInKnown
+  readOffsetKnown (Offset.Whole n) = onGoodKnown (λ h. readByKnown (a .calendar) (a .period) (a .reference) h (stepOn a) n)
+  readOffsetKnown (Offset.Double x) = onGoodKnown (doubleInKnown (a .mode) x)
 
 -- ---- the answer of a case
 unfoldable pub readingAnswerKnown : (c : Calendar) (r : Reading) → Known (readingAnswer c r)
