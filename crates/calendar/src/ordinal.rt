@@ -3,7 +3,7 @@ ghost use mathlib.Core.Path.{_≡_};
 ghost use mathlib.Core.Bool.{true};
 ghost use Prim.Native.Nat.{_<_, _≤_, _^_};
 ghost use Rattle.calendar.specs.Calendar.{hasYearZero, exists, date, dateOf};
-ghost use Rattle.calendar.specs.Closed.{yearAt, hasDayAt, beforePlace, counts, isEarly, isDropped, ruleAt, lagAt};
+ghost use Rattle.calendar.specs.Closed.{yearAt, beforePlace, counts, isEarly, isDropped, ruleAt, lagAt};
 use crate::Calendar;
 use crate::month;
 use crate::place;
@@ -74,9 +74,9 @@ fn lag_at(c: Calendar, y: u64, month: u32, day: u32) -> u64
     return 0;
 }
 
-// Whether a rule has the date.
-fn has_day(r: Rule, y: u64, month: u32, day: u32) -> bool
-    ensures { λ b. ⌜ b ≡ hasDayAt r y month day ⌝ }
+// Whether a date exists.
+pub fn exists_in_year(c: Calendar, y: u64, month: u32, day: u32) -> bool
+    ensures { λ r. ⌜ r ≡ exists c (date (yearAt (hasYearZero c) y) month day) ⌝ }
 {
     if month < 1 {
         return false;
@@ -87,18 +87,12 @@ fn has_day(r: Rule, y: u64, month: u32, day: u32) -> bool
     if day < 1 {
         return false;
     }
-    let m = (month - 1) as usize;
-    return day as u64 <= month::month_length(rule::kind_of_year(r, y), m);
-}
-
-// Whether a date exists.
-pub fn exists_in_year(c: Calendar, y: u64, month: u32, day: u32) -> bool
-    ensures { λ r. ⌜ r ≡ exists c (date (yearAt (hasYearZero c) y) month day) ⌝ }
-{
     if is_dropped(c, y, month, day) {
         return false;
     }
-    return has_day(rule_at(c, y, month, day), y, month, day);
+    let m = (month - 1) as usize;
+    let k = rule::kind_of_year(rule_at(c, y, month, day), y);
+    return day as u64 <= month::month_length(k, m);
 }
 
 // The day number of a date that exists.
