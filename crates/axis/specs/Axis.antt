@@ -103,10 +103,10 @@ readOffset a (Offset.Double x) = readDoubleOn a x
 unfoldable pub writeInstantOn : Axis → ℤ → OffsetAnswer
 writeInstantOn a t = onGood (axisCheck a) OffsetAnswer.Refused (cond (inRange (a .calendar) t) (offsetOn a t) (OffsetAnswer.Refused OutOfRange))
 
-abbrev pub ofInstant : InstantAnswer → (ℤ → OffsetAnswer) → OffsetAnswer
-ofInstant (InstantAnswer.Is t) write = write t
-ofInstant (InstantAnswer.Refused r) write = OffsetAnswer.Refused r
+abbrev pub onInstant : InstantAnswer → (ℤ → OffsetAnswer) → OffsetAnswer
+onInstant (InstantAnswer.Is t) write = write t
+onInstant (InstantAnswer.Refused r) write = OffsetAnswer.Refused r
 
 -- refused for the axis, then as the instant of the fields is, then where there is no whole offset
 unfoldable pub writeFieldsOn : Axis → Fields → OffsetAnswer
-writeFieldsOn a f = onGood (axisCheck a) OffsetAnswer.Refused (ofInstant (instantAnswer (a .calendar) f) (offsetOn a))
+writeFieldsOn a f = onGood (axisCheck a) OffsetAnswer.Refused (onInstant (instantAnswer (a .calendar) f) (offsetOn a))

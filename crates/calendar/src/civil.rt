@@ -25,7 +25,7 @@ pub fn year_name(zero: bool, y: u64) -> i64
 }
 
 // The date of day n of a rule.
-fn date_by(zero: bool, r: Rule, n: u64) -> Date
+fn date_by_rule(zero: bool, r: Rule, n: u64) -> Date
     requires { ⌜ n < 2 ^ 30 ⌝ }
     ensures { λ d. ⌜ Labelled zero r n d ⌝ }
 {
@@ -37,20 +37,6 @@ fn date_by(zero: bool, r: Rule, n: u64) -> Date
     }
 }
 
-// The same rule by rule, so that each is compiled apart and the rule is asked for once.
-fn date_by_rule(zero: bool, r: Rule, n: u64) -> Date
-    requires { ⌜ n < 2 ^ 30 ⌝ }
-    ensures { λ d. ⌜ Labelled zero r n d ⌝ }
-{
-    match r {
-        Rule::Gregorian => return date_by(zero, Rule::Gregorian, n),
-        Rule::Julian => return date_by(zero, Rule::Julian, n),
-        Rule::Common => return date_by(zero, Rule::Common, n),
-        Rule::Leap => return date_by(zero, Rule::Leap, n),
-        Rule::Thirty => return date_by(zero, Rule::Thirty, n),
-    }
-}
-
 // The date of day n of a calendar.
 pub fn date_at(c: Calendar, n: u64) -> Date
     requires { ⌜ n < 2 ^ 30 ⌝ }
@@ -59,7 +45,7 @@ pub fn date_at(c: Calendar, n: u64) -> Date
     let r = row::row_of(c);
     if n < row::late_from(c) {
         let early = r.early;
-        return date_by(r.zero, early, n + row::lag_of(c));
+        return date_by_rule(r.zero, early, n + row::lag_of(c));
     }
     let late = r.late;
     return date_by_rule(r.zero, late, n);

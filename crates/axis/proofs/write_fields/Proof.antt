@@ -9,7 +9,7 @@ use Rattle.instant.specs.declared.InstantAnswer.{InstantAnswer}
 use Rattle.instant.proofs.Theorems.{shown, fields-of-instant}
 use Rattle.axis_types.specs.declared.Axis.{Axis}
 use Rattle.axis_types.specs.declared.OffsetAnswer.{OffsetAnswer}
-use Rattle.axis.specs.Axis.{onGood, offsetOn, ofInstant, writeFieldsOn}
+use Rattle.axis.specs.Axis.{onGood, offsetOn, onInstant, writeFieldsOn}
 use Rattle.axis.specs.declared.AxisCheck.{AxisCheck}
 use Rattle.axis.proofs.Laws.{in-good}
 use borrow.Author.Needs.{needs}
@@ -23,15 +23,15 @@ module _ (k : tie.After-check-axis) where
   abbrev fields : Fields
   fields = k .before .args .f
 
-  settled : (a : AxisCheck) → k .check-axis .result ≡ a → onGood a OffsetAnswer.Refused (ofInstant (instantAnswer (axis .calendar) fields) (λ (t : ℤ). offsetOn axis t)) ≡ writeFieldsOn axis fields
+  settled : (a : AxisCheck) → k .check-axis .result ≡ a → onGood a OffsetAnswer.Refused (onInstant (instantAnswer (axis .calendar) fields) (λ (t : ℤ). offsetOn axis t)) ≡ writeFieldsOn axis fields
   unfolding writeFieldsOn
-  settled a e = ap (λ (a : AxisCheck). onGood a OffsetAnswer.Refused (ofInstant (instantAnswer (axis .calendar) fields) (λ (t : ℤ). offsetOn axis t))) (sym e ∙ k .check-axis .ensures)
+  settled a e = ap (λ (a : AxisCheck). onGood a OffsetAnswer.Refused (onInstant (instantAnswer (axis .calendar) fields) (λ (t : ℤ). offsetOn axis t))) (sym e ∙ k .check-axis .ensures)
 
 -- once the instant of the fields is known
-told : (i : tie.After-instant-of) (a : InstantAnswer) → i .instant-of .result ≡ a → let k = i .before .before .before in ofInstant a (λ (t : ℤ). offsetOn (axis k) t) ≡ writeFieldsOn (axis k) (fields k)
+told : (i : tie.After-instant-of) (a : InstantAnswer) → i .instant-of .result ≡ a → let k = i .before .before .before in onInstant a (λ (t : ℤ). offsetOn (axis k) t) ≡ writeFieldsOn (axis k) (fields k)
 told i a e =
     let k = i .before .before .before in
-    ap (λ (a : InstantAnswer). ofInstant a (λ (t : ℤ). offsetOn (axis k) t)) (sym e ∙ i .instant-of .ensures) ∙ settled k AxisCheck.Good (i .before .enum-told .given .1)
+    ap (λ (a : InstantAnswer). onInstant a (λ (t : ℤ). offsetOn (axis k) t)) (sym e ∙ i .instant-of .ensures) ∙ settled k AxisCheck.Good (i .before .enum-told .given .1)
 
 check-axis-requires : tie.Need-check-axis-requires
 check-axis-requires c κs = search needs

@@ -15,11 +15,11 @@ near c =
     let x = n .before .before .args .c in
     omega (arith, c .before .if1 .taken, n .late-from .ensures, c .lag-of .ensures, late-small (rowOf x) (cutover x))
 
-add-date-by : tie.Need-add-date-by
-add-date-by c = record { fits = omega (arith, near c) }
+add-date-by-rule : tie.Need-add-date-by-rule
+add-date-by-rule c = record { fits = omega (arith, near c) }
 
-date-by-requires : tie.Need-date-by-requires
-date-by-requires c κs = omega (arith, near c)
+date-by-rule-requires : tie.Need-date-by-rule-requires
+date-by-rule-requires c κs = omega (arith, near c)
 
 returns : tie.Need-returns
 unfolding dateOf
@@ -29,7 +29,7 @@ returns c =
     let r = n .before in
     let x = r .before .args .c in
     let e = r .row-of .ensures in
-    labelled-date (c .date-by .ensures)
+    labelled-date (c .date-by-rule .ensures)
     ∙ ((λ i. dayDate (plain (e i .early) (e i .zero)) (r .before .args .n + l .lag-of .ensures i))
     ∙ sym (dated-early (rowOf x) (cutover x) (r .before .args .n) (omega (arith, l .before .if1 .taken, n .late-from .ensures))))
 
@@ -40,7 +40,7 @@ returns-2 c =
     let r = n .before in
     let x = r .before .args .c in
     let e = r .row-of .ensures in
-    labelled-date (c .date-by-rule .ensures)
+    labelled-date (c .date-by-rule2 .ensures)
     ∙ ((λ i. dayDate (plain (e i .late) (e i .zero)) (r .before .args .n))
     ∙ sym (dated-late (rowOf x) (cutover x) (r .before .args .n) (omega (arith, c .before .if1 .left, n .late-from .ensures))))
 
@@ -51,8 +51,8 @@ date-at-spec =
     (λ c κs. search needs)
     (λ c κs. search needs)
     (λ c κs. search needs)
-    add-date-by
-    date-by-requires
+    add-date-by-rule
+    date-by-rule-requires
     returns
     (λ c κs. search needs)
     returns-2)

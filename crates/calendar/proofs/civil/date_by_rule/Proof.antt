@@ -1,31 +1,37 @@
--- `calendar::civil::date_by_rule` meets its contract: each rule is the one that was asked for.
-use mathlib.Core.Path.{_≡_, sym, subst}
-use Rattle.calendar.specs.Closed.{Labelled}
-use Rattle.calendar.specs.declared.Date.{Date}
-use Rattle.calendar.specs.declared.rule.Rule.{Rule}
+-- `calendar::civil::date_by_rule` meets its contract. Assumes nothing.
+use mathlib.Core.Path.{refl, _∙_}
+use native.Mathlib.Omega.{arith}
+use mir.Syntax.{w64}
+use mir.ValLaws.{toZ-ofZ}
+use Rattle.calendar.proofs.Existing.{date-eq}
+use Rattle.calendar.proofs.Places.{split-small}
 use borrow.Author.Needs.{needs}
 use Rattle.calendar.proofs.civil.date_by_rule.Statement.{statement}
 use Rattle.calendar.proofs.civil.date_by_rule.Tie as tie
 
-by : (s : tie.Start) (r : Rule) (d : Date) → s .args .r ≡ r → Labelled (s .args .zero) r (s .args .n) d → Labelled (s .args .zero) (s .args .r) (s .args .n) d
-by s r d e = subst (λ (q : Rule). Labelled (s .args .zero) q (s .args .n) d) (sym e)
+year-name-requires : tie.Need-year-name-requires
+year-name-requires c κs = split-small (c .before .args .r) (c .before .args .n) (c .place-of .result) (c .place-of .ensures) (c .before .pre) .0
+
+add-t8 : tie.Need-add-t8
+add-t8 c = let s = c .before .before .before in record { fits = omega (arith, split-small (s .before .args .r) (s .before .args .n) (s .place-of .result) (s .place-of .ensures) (s .before .pre)) }
+
+cast-t9 : tie.Need-cast-t9
+cast-t9 c = let s = c .before .before .before in record { fits = omega (arith, split-small (s .before .args .r) (s .before .args .n) (s .place-of .result) (s .place-of .ensures) (s .before .pre)) }
+
+returns : tie.Need-returns
+returns c =
+    let p = c .before .before .before .place-of in
+    let y = c .before .before .year-name in
+    record { at = p .result; split = p .ensures; is = date-eq (toZ-ofZ w64 (y .result) (record { sfits = y .ok }) ∙ y .ensures) refl refl }
 
 pub date-by-rule-spec : {M : Type 1} → statement M
 date-by-rule-spec =
     tie.close
     (tie.spec
-    (λ c. search needs)
     (λ c κs. search needs)
-    (λ c. by (c .before .before .before) _ _ (c .before .enum-told .given .1) (c .date-by .ensures))
+    year-name-requires
     (λ c. search needs)
-    (λ c κs. search needs)
-    (λ c. by (c .before .before .before) _ _ (c .before .enum-told2 .given .1) (c .date-by2 .ensures))
     (λ c. search needs)
-    (λ c κs. search needs)
-    (λ c. by (c .before .before .before) _ _ (c .before .enum-told3 .given .1) (c .date-by3 .ensures))
-    (λ c. search needs)
-    (λ c κs. search needs)
-    (λ c. by (c .before .before .before) _ _ (c .before .enum-told4 .given .1) (c .date-by4 .ensures))
-    (λ c. search needs)
-    (λ c κs. search needs)
-    (λ c. by (c .before .before .before) _ _ (c .before .enum-told5 .given .1) (c .date-by5 .ensures)))
+    add-t8
+    cast-t9
+    returns)
