@@ -6,10 +6,10 @@ use native.Mathlib.Omega.{arith}
 use lib.Dec.{leb, ltb}
 use lib.IntN.{ℤ, subℕ}
 use lib.Signed.{leZ}
-use borrow.Author.Tests.{le-leb, lt-leb, leb-true, leb-false, lt-ltb, le-ltb}
+use borrow.Author.Tests.{le-leb, lt-leb, leb-true, leb-false, ltb-true, ltb-false}
 use Rattle.refusal.specs.declared.Refusal.the-variants.{NoSuchDate, OutOfRange}
 use Rattle.signed.specs.Bias.{unbiased}
-use Rattle.signed.proofs.Tests.{test-is, and-parts, left-out}
+use Rattle.signed.proofs.Tests.{test-is, both, and-parts, left-out, right-out}
 use Rattle.signed.proofs.Differences.{sub-le, same-diff}
 use Rattle.calendar.specs.Calendar.{dateOf, inYears, exists}
 use Rattle.calendar.specs.Answers.{dateAnswer, dayAnswer}
@@ -18,7 +18,7 @@ use Rattle.calendar.specs.declared.Calendar.{Calendar}
 use Rattle.calendar.specs.declared.Date.{Date}
 use Rattle.calendar.specs.declared.DateAnswer.{DateAnswer}
 use Rattle.calendar.specs.declared.DayAnswer.{DayAnswer}
-use Rattle.calendar.proofs.Range.{range, small, lowDay, highDay}
+use Rattle.calendar.proofs.Range.{range, small, wide, lowDay, highDay}
 use Rattle.calendar.proofs.Numbering.{number-is}
 
 module _ (c : Calendar) where
@@ -38,19 +38,27 @@ module _ (c : Calendar) where
       let high : highDay c ≡ unbiased (endDay c - 1 + o) = same-diff (endDay c - 1) (epochDay c) (endDay c - 1 + o) 9223372036854775808 (omega (arith, small c)) in
       range c (unbiased k) ∙ ((λ i. leZ (low i) (unbiased k) && leZ (unbiased k) (high i)) ∙ (λ i. sub-le (firstDay c + o) k 9223372036854775808 i && sub-le k (endDay c - 1 + o) 9223372036854775808 i))
 
-  -- the tests that the code makes, with o for the raised day number of the first place
-  module _ (k o : ℕ) (is : o ≡ 9223372036854775808 - epochDay c) where
-    pub years-below : k < firstDay c + o → inYears (dateOf c (unbiased k) .year) ≡ false
-    years-below h =
-        let b = 9223372036854775808 - epochDay c in
-        range-biased k ∙ left-out (leb (firstDay c + b) k) (leb k (endDay c - 1 + b)) (lt-leb (firstDay c + b) k (omega arith))
+  -- the tests that the code makes: every calendar has the days from 4000000 before 1970-01-01 to 2800000 after it
+  pub years-middle : (k : ℕ) → 9223372036854775808 - 4000000 ≤ k → k < 9223372036854775808 + 2800000 → inYears (dateOf c (unbiased k) .year) ≡ true
+  years-middle k l h =
+      let o = 9223372036854775808 - epochDay c in
+      range-biased k ∙ both (leb (firstDay c + o) k) (leb k (endDay c - 1 + o)) (le-leb (firstDay c + o) k (omega (arith, small c, wide c))) (le-leb k (endDay c - 1 + o) (omega (arith, small c, wide c)))
 
-    pub years-from : firstDay c + o ≤ k → inYears (dateOf c (unbiased k) .year) ≡ ltb (k - o) (endDay c)
-    years-from h =
+  -- with o for the raised day number of the first place
+  module _ (k o : ℕ) (is : o ≡ 9223372036854775808 - epochDay c) where
+    pub years-early : k < 9223372036854775808 - 4000000 → leb (o + firstDay c) k ≡ inYears (dateOf c (unbiased k) .year)
+    years-early h =
         let b = 9223372036854775808 - epochDay c in
-        range-biased k
-        ∙ (ap (λ (t : Bool). t && leb k (endDay c - 1 + b)) (le-leb (firstDay c + b) k (omega arith))
-        ∙ test-is (leb k (endDay c - 1 + b)) (ltb (k - o) (endDay c)) (λ e. lt-ltb (k - o) (endDay c) (omega (arith, small c, leb-true k (endDay c - 1 + b) e))) (λ e. le-ltb (k - o) (endDay c) (omega (arith, leb-false k (endDay c - 1 + b) e))))
+        test-is (leb (o + firstDay c) k) (inYears (dateOf c (unbiased k) .year))
+        (λ e. range-biased k ∙ both (leb (firstDay c + b) k) (leb k (endDay c - 1 + b)) (le-leb (firstDay c + b) k (omega (arith, leb-true (o + firstDay c) k e))) (le-leb k (endDay c - 1 + b) (omega (arith, small c, wide c))))
+        (λ e. range-biased k ∙ left-out (leb (firstDay c + b) k) (leb k (endDay c - 1 + b)) (lt-leb (firstDay c + b) k (omega (arith, leb-false (o + firstDay c) k e))))
+
+    pub years-late : 9223372036854775808 + 2800000 ≤ k → ltb (k - o) (endDay c) ≡ inYears (dateOf c (unbiased k) .year)
+    years-late h =
+        let b = 9223372036854775808 - epochDay c in
+        test-is (ltb (k - o) (endDay c)) (inYears (dateOf c (unbiased k) .year))
+        (λ e. range-biased k ∙ both (leb (firstDay c + b) k) (leb k (endDay c - 1 + b)) (le-leb (firstDay c + b) k (omega (arith, small c))) (le-leb k (endDay c - 1 + b) (omega (arith, small c, ltb-true (k - o) (endDay c) e))))
+        (λ e. range-biased k ∙ right-out (leb (firstDay c + b) k) (leb k (endDay c - 1 + b)) (lt-leb k (endDay c - 1 + b) (omega (arith, small c, ltb-false (k - o) (endDay c) e))))
 
     -- a day number of those years, counted from the first place
     pub years-inside : inYears (dateOf c (unbiased k) .year) ≡ true → (o ≤ k) × (k - o < endDay c)

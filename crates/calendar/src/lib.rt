@@ -89,18 +89,18 @@ fn origin(c: Calendar) -> u64
     0x8000_0000_0000_0000 - epoch_day(c)
 }
 
-// Whether the date of the day number k - 2^63 lies in the years -9999 to 9999.
+// Whether the date of the day number k - 2^63 lies in the years -9999 to 9999. From 4000000 days before 1970-01-01 to 2800000 after
+// it every calendar's does.
 fn day_in_years(c: Calendar, k: u64) -> bool
     ensures { λ r. ⌜ r ≡ inYears (dateOf c (unbiased k) .year) ⌝ }
 {
-    let o = origin(c);
-    if k < o {
-        return false;
+    if k < 0x8000_0000_0000_0000 - 4000000 {
+        return origin(c) + first_day(c) <= k;
     }
-    if k - o < first_day(c) {
-        return false;
+    if k < 0x8000_0000_0000_0000 + 2800000 {
+        return true;
     }
-    return k - o < end_day(c);
+    return k - origin(c) < end_day(c);
 }
 
 // The date of such a day number.
