@@ -2,7 +2,7 @@
 -- law of every row whose cutover meets `Days.Cutover`, read off for the rows of the calendars.
 use mathlib.Core.Path.{_≡_, refl, sym, ap, _∙_}
 use mathlib.Core.Bool.{Bool, true, false, _&&_, cond}
-use Prim.Native.Nat.{ℕ, suc, _+_, _-_}
+use Prim.Native.Nat.{ℕ, suc, _+_, _-_, _<_, _^_}
 use native.Mathlib.Omega.{arith}
 use lib.IntN.{ℤ, pos, negsuc, sucℤ, subℕ}
 use lib.Dec.{leb, ltb}
@@ -11,11 +11,11 @@ use borrow.Author.Tests.{leb-true, ltb-true, ltb-false, eqb-false}
 use Rattle.refusal.specs.declared.Refusal.the-variants.{NoSuchDate, OutOfRange}
 use Rattle.signed.proofs.Tests.{and-parts}
 use Rattle.signed.proofs.Differences.{sub-low, sub-high}
-use Rattle.calendar.specs.Plain.{lacksYear}
-use Rattle.calendar.specs.Calendar.{hasYearZero, next, prev, dateOf, exists, inYears, date, rowOf, earlyPart, latePart, nextBy, prevBy, existsBy, dateBy, epoch}
+use Rattle.calendar.specs.Plain.{plain, lacksYear}
+use Rattle.calendar.specs.Calendar.{hasYearZero, next, prev, dateOf, exists, inYears, date, rowOf, nextBy, prevBy, existsBy, dateBy, epoch}
 use Rattle.calendar.specs.Order.{earlier}
 use Rattle.calendar.specs.Answers.{dayNumber, dayAnswer}
-use Rattle.calendar.specs.Closed.{yearAt, count, dayPlace, counts, lateFrom, lag, ruleAt, lagAt, epochDay}
+use Rattle.calendar.specs.Closed.{yearAt, count, dayPlace, counts, lateFrom, lag, ruleAt, lagAt, ruleOfDay, dayByRule, epochDay}
 use Rattle.calendar.specs.declared.Calendar.{Calendar}
 use Rattle.calendar.specs.declared.Date.{Date}
 use Rattle.calendar.specs.declared.DayAnswer.{DayAnswer}
@@ -23,7 +23,7 @@ use Rattle.calendar.proofs.Existing.{date-eq, valid-of, valid-year}
 use Rattle.calendar.proofs.Labels.{year-low, year-high}
 use Rattle.calendar.proofs.Plain.{Chain}
 use Rattle.calendar.proofs.Walk as Walk
-use Rattle.calendar.proofs.Days.{dayDate, row-chain, row-start, dated-early, dated-late}
+use Rattle.calendar.proofs.Days.{dayDate, row-chain, row-start, dated-early, dated-late, late-small}
 use Rattle.calendar.proofs.Rows.{cutover}
 use Rattle.calendar.proofs.Range as Range
 use Rattle.calendar.proofs.Range.{lowDay, highDay}
@@ -87,13 +87,20 @@ module _ (c : Calendar) where
   range = Range.range c
 
   -- the date of day n from the first place of the late rule, by the closed forms
-  pub date-by-count : (n : ℕ) → dateOf c (subℕ n (epochDay c)) ≡ cond (ltb n (lateFrom (counts c))) (dayDate (earlyPart (rowOf c)) (n + lag (counts c))) (dayDate (latePart (rowOf c)) n)
+  pub date-by-count : (n : ℕ) → dateOf c (subℕ n (epochDay c)) ≡ dayDate (plain (ruleOfDay (counts c) n) (hasYearZero c)) (dayByRule (counts c) n)
   unfolding dateOf
   date-by-count n = go (ltb n (lateFrom (counts c))) refl
     where
-      go : (t : Bool) → ltb n (lateFrom (counts c)) ≡ t → dateBy (rowOf c) (subℕ n (epochDay c)) ≡ cond t (dayDate (earlyPart (rowOf c)) (n + lag (counts c))) (dayDate (latePart (rowOf c)) n)
+      go : (t : Bool) → ltb n (lateFrom (counts c)) ≡ t → dateBy (rowOf c) (subℕ n (epochDay c)) ≡ dayDate (plain (cond t (counts c .early) (counts c .late)) (hasYearZero c)) (cond t (n + lag (counts c)) n)
       go true e = dated-early (rowOf c) (cutover c) n (ltb-true n (lateFrom (counts c)) e)
       go false e = dated-late (rowOf c) (cutover c) n (ltb-false n (lateFrom (counts c)) e)
+
+  pub day-by-rule-small : (n : ℕ) → n < 2 ^ 30 → dayByRule (counts c) n < 2 ^ 30
+  day-by-rule-small n h = go (ltb n (lateFrom (counts c))) refl
+    where
+      go : (t : Bool) → ltb n (lateFrom (counts c)) ≡ t → cond t (n + lag (counts c)) n < 2 ^ 30
+      go true e = omega (arith, ltb-true n (lateFrom (counts c)) e, late-small (rowOf c) (cutover c))
+      go false e = h
 
   -- there and back: a date of those years that exists is the date of its day number, and a day number is that of its date
   pub date-of-number : (x : Date) → inYears (x .year) ≡ true → exists c x ≡ true → dateOf c (dayNumber c x) ≡ x

@@ -160,6 +160,13 @@ ruleAt k y m d = cond (isEarly k y m d) (k .early) (k .late)
 abbrev pub lagAt : CountedRow → ℕ → ℕ → ℕ → ℕ
 lagAt k y m d = cond (isEarly k y m d) (lag k) 0
 
+-- the rule of the part that day n belongs to, and the day's count by that rule
+abbrev pub ruleOfDay : CountedRow → ℕ → Rule
+ruleOfDay k n = cond (ltb n (lateFrom k)) (k .early) (k .late)
+
+abbrev pub dayByRule : CountedRow → ℕ → ℕ
+dayByRule k n = cond (ltb n (lateFrom k)) (n + lag k) n
+
 -- ---- a calendar's numbers, in days from place 0 0 0 of its late rule
 
 -- 1970-01-01

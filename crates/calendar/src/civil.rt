@@ -3,7 +3,7 @@ ghost use mathlib.Core.Path.{_≡_};
 ghost use Prim.Native.Nat.{_<_, _^_};
 ghost use lib.IntN.{subℕ};
 ghost use Rattle.calendar.specs.Calendar.{dateOf};
-ghost use Rattle.calendar.specs.Closed.{yearAt, Labelled, epochDay};
+ghost use Rattle.calendar.specs.Closed.{yearAt, Labelled, counts, ruleOfDay, dayByRule, epochDay};
 use crate::Calendar;
 use crate::Date;
 use crate::place;
@@ -37,16 +37,33 @@ fn date_by_rule(zero: bool, r: Rule, n: u64) -> Date
     }
 }
 
+// The rule of the part that day n belongs to.
+fn rule_of_day(c: Calendar, n: u64) -> Rule
+    ensures { λ r. ⌜ r ≡ ruleOfDay (counts c) n ⌝ }
+{
+    let r = row::row_of(c);
+    if n < row::late_from(c) {
+        return r.early;
+    }
+    return r.late;
+}
+
+// The count of day n by that rule.
+fn day_by_rule(c: Calendar, n: u64) -> u64
+    requires { ⌜ n < 2 ^ 30 ⌝ }
+    ensures { λ d. ⌜ d ≡ dayByRule (counts c) n ⌝ }
+{
+    if n < row::late_from(c) {
+        return n + row::lag_of(c);
+    }
+    return n;
+}
+
 // The date of day n of a calendar.
 pub fn date_at(c: Calendar, n: u64) -> Date
     requires { ⌜ n < 2 ^ 30 ⌝ }
     ensures { λ d. ⌜ d ≡ dateOf c (subℕ n (epochDay c)) ⌝ }
 {
     let r = row::row_of(c);
-    if n < row::late_from(c) {
-        let early = r.early;
-        return date_by_rule(r.zero, early, n + row::lag_of(c));
-    }
-    let late = r.late;
-    return date_by_rule(r.zero, late, n);
+    date_by_rule(r.zero, rule_of_day(c, n), day_by_rule(c, n))
 }

@@ -1,48 +1,23 @@
+-- `calendar::civil::date_at` meets its contract: the date of the day by its part's rule.
 use mathlib.Core.Path.{sym, _∙_}
-use Prim.Native.Nat.{_+_, _<_}
-use native.Mathlib.Omega.{arith}
 use Rattle.calendar.specs.Plain.{plain}
-use Rattle.calendar.specs.Calendar.{dateOf, rowOf}
-use Rattle.calendar.proofs.Days.{dayDate, labelled-date, dated-early, dated-late, late-small}
-use Rattle.calendar.proofs.Rows.{cutover}
+use Rattle.calendar.proofs.Days.{dayDate, labelled-date}
+use Rattle.calendar.proofs.Theorems.{date-by-count, day-by-rule-small}
 use borrow.Author.Needs.{needs}
 use Rattle.calendar.proofs.civil.date_at.Statement.{statement}
 use Rattle.calendar.proofs.civil.date_at.Tie as tie
 
-near : (c : tie.After-lag-of) → c .before .before .before .before .args .n + c .lag-of .result < 5000000
-near c =
-    let n = c .before .before in
-    let x = n .before .before .args .c in
-    omega (arith, c .before .if1 .taken, n .late-from .ensures, c .lag-of .ensures, late-small (rowOf x) (cutover x))
-
-add-date-by-rule : tie.Need-add-date-by-rule
-add-date-by-rule c = record { fits = omega (arith, near c) }
-
 date-by-rule-requires : tie.Need-date-by-rule-requires
-date-by-rule-requires c κs = omega (arith, near c)
+date-by-rule-requires c κs = let s = c .before .before .before in rw (c .day-by-rule .ensures) (day-by-rule-small (s .args .c) (s .args .n) (s .pre))
 
 returns : tie.Need-returns
-unfolding dateOf
 returns c =
-    let l = c .before in
-    let n = l .before .before in
-    let r = n .before in
-    let x = r .before .args .c in
-    let e = r .row-of .ensures in
+    let d = c .before in
+    let r = d .before in
+    let w = r .before in
+    let s = w .before in
     labelled-date (c .date-by-rule .ensures)
-    ∙ ((λ i. dayDate (plain (e i .early) (e i .zero)) (r .before .args .n + l .lag-of .ensures i))
-    ∙ sym (dated-early (rowOf x) (cutover x) (r .before .args .n) (omega (arith, l .before .if1 .taken, n .late-from .ensures))))
-
-returns-2 : tie.Need-returns-2
-unfolding dateOf
-returns-2 c =
-    let n = c .before .before in
-    let r = n .before in
-    let x = r .before .args .c in
-    let e = r .row-of .ensures in
-    labelled-date (c .date-by-rule2 .ensures)
-    ∙ ((λ i. dayDate (plain (e i .late) (e i .zero)) (r .before .args .n))
-    ∙ sym (dated-late (rowOf x) (cutover x) (r .before .args .n) (omega (arith, c .before .if1 .left, n .late-from .ensures))))
+    ∙ ((λ i. dayDate (plain (r .rule-of-day .ensures i) (w .row-of .ensures i .zero)) (d .day-by-rule .ensures i)) ∙ sym (date-by-count (s .args .c) (s .args .n)))
 
 pub date-at-spec : {M : Type 1} → statement M
 date-at-spec =
@@ -51,8 +26,5 @@ date-at-spec =
     (λ c κs. search needs)
     (λ c κs. search needs)
     (λ c κs. search needs)
-    add-date-by-rule
     date-by-rule-requires
-    returns
-    (λ c κs. search needs)
-    returns-2)
+    returns)
