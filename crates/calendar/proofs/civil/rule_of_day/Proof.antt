@@ -4,7 +4,6 @@ use mathlib.Core.Bool.{Bool, true, false, cond}
 use lib.Dec.{ltb}
 use borrow.Author.Tests.{lt-ltb, le-ltb}
 use Rattle.calendar.specs.Closed.{counts, lateFrom}
-use Rattle.calendar.specs.declared.row.CountedRow.{CountedRow}
 use borrow.Author.Needs.{needs}
 use Rattle.calendar.proofs.civil.rule_of_day.Statement.{statement}
 use Rattle.calendar.proofs.civil.rule_of_day.Tie as tie
