@@ -18,10 +18,10 @@ pub fn kind_of_year(r: Rule, y: u64) -> usize
 {
     match r {
         Rule::Gregorian => {
-            if y % 400 == 0 {
-                return 1;
-            }
             if y % 100 == 0 {
+                if y % 400 == 0 {
+                    return 1;
+                }
                 return 0;
             }
             if y % 4 == 0 {
@@ -47,7 +47,10 @@ pub fn year_start(r: Rule, y: u64) -> u64
     ensures { λ s. ⌜ s ≡ yearStart r y ⌝ }
 {
     match r {
-        Rule::Gregorian => return 365 * y + (y + 3) / 4 + (y + 399) / 400 - (y + 99) / 100,
+        Rule::Gregorian => {
+            let centuries = (y + 99) / 100;
+            return 365 * y + (y + 3) / 4 - 3 * centuries / 4;
+        }
         Rule::Julian => return 365 * y + (y + 3) / 4,
         Rule::Common => return 365 * y,
         Rule::Leap => return 366 * y,

@@ -1,14 +1,15 @@
 -- `calendar::rule::year_start` meets its contract. Assumes nothing.
-use mathlib.Core.Path.{sym, ap}
+use mathlib.Core.Path.{sym, ap, _∙_}
 use Rattle.calendar.specs.Closed.{yearStart}
 use Rattle.calendar.specs.declared.rule.Rule.{Rule}
+use Rattle.calendar.proofs.Years.{centuries}
 use borrow.Author.Needs.{needs}
 use Rattle.calendar.proofs.rule.year_start.Statement.{statement}
 use Rattle.calendar.proofs.rule.year_start.Tie as tie
 
 returns : tie.Need-returns
 unfolding yearStart
-returns c = ap (λ (x : Rule). yearStart x (c .before .before .args .y)) (sym (c .enum-told .given .1))
+returns c = let y = c .before .before .args .y in centuries y ∙ ap (λ (x : Rule). yearStart x y) (sym (c .enum-told .given .1))
 
 returns-2 : tie.Need-returns-2
 unfolding yearStart
@@ -30,7 +31,6 @@ pub year-start-spec : {M : Type 1} → statement M
 year-start-spec =
     tie.close
     (tie.spec
-    (λ c. search needs)
     (λ c. search needs)
     (λ c. search needs)
     (λ c. search needs)
