@@ -109,9 +109,9 @@ pub kind-4 : (y : ℕ) → (y % 100 ≡ 0 → ⊥) → y % 4 ≡ 0 → kindAt Ru
 unfolding kindAt
 kind-4 y n h = rw (ne-eqb (y % 100) 0 n, eq-eqb (y % 4) 0 h)
 
-pub kind-other : (y : ℕ) → (y % 4 ≡ 0 → ⊥) → kindAt Rule.Gregorian y ≡ 0
+pub kind-other : (y : ℕ) → (y % 400 ≡ 0 → ⊥) → (y % 4 ≡ 0 → ⊥) → kindAt Rule.Gregorian y ≡ 0
 unfolding kindAt
-kind-other y h = rw (ne-eqb (y % 400) 0 (λ e. h (omega (arith, e))), ne-eqb (y % 4) 0 h)
+kind-other y n h = rw (ne-eqb (y % 400) 0 n, ne-eqb (y % 4) 0 h)
 
 -- of the century years that begin before year y one in four is a leap year
 pub centuries : (y : ℕ) → 365 * y + (y + 3) / 4 - 3 * ((y + 99) / 100) / 4 ≡ 365 * y + (y + 3) / 4 + (y + 399) / 400 - (y + 99) / 100

@@ -18,10 +18,10 @@ pub fn kind_of_year(r: Rule, y: u64) -> usize
 {
     match r {
         Rule::Gregorian => {
+            if y % 400 == 0 {
+                return 1;
+            }
             if y % 100 == 0 {
-                if y % 400 == 0 {
-                    return 1;
-                }
                 return 0;
             }
             if y % 4 == 0 {

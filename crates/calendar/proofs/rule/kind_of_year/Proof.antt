@@ -8,16 +8,16 @@ use Rattle.calendar.proofs.rule.kind_of_year.Statement.{statement}
 use Rattle.calendar.proofs.rule.kind_of_year.Tie as tie
 
 returns : tie.Need-returns
-returns c = let y = c .before .before .before .before .args .y in sym (ap (λ (x : Rule). kindAt x y) (c .before .before .enum-told .given .1) ∙ kind-400 y (c .if2 .taken))
+returns c = let y = c .before .before .before .args .y in sym (ap (λ (x : Rule). kindAt x y) (c .before .enum-told .given .1) ∙ kind-400 y (c .if1 .taken))
 
 returns-2 : tie.Need-returns-2
-returns-2 c = let y = c .before .before .before .before .args .y in sym (ap (λ (x : Rule). kindAt x y) (c .before .before .enum-told .given .1) ∙ kind-100 y (c .if2 .left) (c .before .if1 .taken))
+returns-2 c = let y = c .before .before .before .before .args .y in sym (ap (λ (x : Rule). kindAt x y) (c .before .before .enum-told .given .1) ∙ kind-100 y (c .before .if1 .left) (c .if2 .taken))
 
 returns-3 : tie.Need-returns-3
-returns-3 c = let y = c .before .before .before .before .args .y in sym (ap (λ (x : Rule). kindAt x y) (c .before .before .enum-told .given .1) ∙ kind-4 y (c .before .if1 .left) (c .if3 .taken))
+returns-3 c = let y = c .before .before .before .before .before .args .y in sym (ap (λ (x : Rule). kindAt x y) (c .before .before .before .enum-told .given .1) ∙ kind-4 y (c .before .if2 .left) (c .if3 .taken))
 
 returns-4 : tie.Need-returns-4
-returns-4 c = let y = c .before .before .before .before .args .y in sym (ap (λ (x : Rule). kindAt x y) (c .before .before .enum-told .given .1) ∙ kind-other y (c .if3 .left))
+returns-4 c = let y = c .before .before .before .before .before .args .y in sym (ap (λ (x : Rule). kindAt x y) (c .before .before .before .enum-told .given .1) ∙ kind-other y (c .before .before .if1 .left) (c .if3 .left))
 
 returns-5 : tie.Need-returns-5
 returns-5 c = let y = c .before .before .before .args .y in sym (ap (λ (x : Rule). kindAt x y) (c .before .enum-told2 .given .1) ∙ kind-julian-4 y (c .if4 .taken))
