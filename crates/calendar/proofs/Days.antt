@@ -13,13 +13,13 @@ use Rattle.signed.proofs.Tests.{and-parts}
 use Rattle.signed.proofs.Differences.{same-diff}
 use Rattle.calendar.specs.Plain.{Plain, plain, monthDays, kind, lastDay, date, dayAfter, hasDay}
 use Rattle.calendar.specs.Calendar.{CalendarRow, earlyPart, latePart, nextBy, prevBy, existsBy, dateBy, epoch}
-use Rattle.calendar.specs.Closed.{kindAt, yearStart, placeAt, count, Proper, Labelled, yearAt, label, dayPlace, countedRow, mixed, cutoverDay, lateFrom, lag, rowEpoch}
+use Rattle.calendar.specs.Closed.{kindAt, yearStart, placeAt, count, Proper, placeOf, yearAt, label, dayPlace, countedRow, mixed, cutoverDay, lateFrom, lag, rowEpoch}
 use Rattle.calendar.specs.declared.Date.{Date}
 use Rattle.calendar.specs.declared.place.Place.{Place}
 use Rattle.calendar.specs.declared.rule.Rule.{Rule}
 use Rattle.calendar.proofs.Years.{kind-low, year-least, year-most}
 use Rattle.calendar.proofs.Tables.{month-days}
-use Rattle.calendar.proofs.Places.{at, at-step, at-proper, at-is, month-first, stepPlace, place-eq, within-year, grows-to, year-grows}
+use Rattle.calendar.proofs.Places.{at, at-step, at-proper, at-is, place-split, month-first, stepPlace, place-eq, within-year, grows-to, year-grows}
 use Rattle.calendar.proofs.Ordered.{date-eq, Before}
 use Rattle.calendar.proofs.Labels.{kinds, after-at, there-at}
 use Rattle.calendar.proofs.Plain.{Follows, day, month, year, exists-of, next-is, Chain, chain}
@@ -96,10 +96,10 @@ module _ (p : Plain) where
       let e : at (p .rule) (yearStart (p .rule) 11970) ≡ q = at-is (p .rule) q (yearStart (p .rule) 11970) (record { month = omega arith; day = omega (arith, month-days (kindAt (p .rule) 11970) 0 (kind-low (p .rule) 11970) (omega arith)) }) (omega (arith, month-first (kindAt (p .rule) 11970))) in
       ap (label (p .zero)) e ∙ date-eq (name-1970 (p .zero)) refl refl
 
--- the label of the place of day n
-pub labelled-date : {z : Bool} {r : Rule} {n : ℕ} {d : Date} → Labelled z r n d → d ≡ dayDate (plain r z) n
+-- day n by the closed form of its place
+pub placed-date : (r : Rule) (z : Bool) (n : ℕ) → label z (placeOf r n) ≡ dayDate (plain r z) n
 unfolding dayDate
-labelled-date {z} {r} {n} w = w .is ∙ ap (label z) (sym (at-is r (w .at) n (w .split .proper) (w .split .counted)))
+placed-date r z n = let s = place-split r n in ap (label z) (sym (at-is r (placeOf r n) n (s .proper) (s .counted)))
 
 -- ---- a row
 

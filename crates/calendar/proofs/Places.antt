@@ -1,19 +1,20 @@
 -- Stepping from place 0 0 0 of a rule: the place after n steps is the one place with n days before it.
 use mathlib.Core.Path.{_≡_, refl, sym, ap, _∙_, subst}
 use mathlib.Core.Bool.{Bool, true, false, cond}
-use Prim.Native.Nat.{ℕ, zero, suc, _+_, _-_, _<_, _≤_, _^_}
+use Prim.Native.Nat.{ℕ, zero, suc, _+_, _-_, _*_, _%_, _<_, _≤_, _^_}
 use native.Mathlib.Omega.{arith}
 use native.Mathlib.Nat.{add-zero, add-suc, le-refl, le-trans}
 use native.Mathlib.Numerals.{add-one}
 use native.Mathlib.Decide.{decLe}
-use lib.Dec.{ltb}
+use lib.Dec.{ltb, eqb}
 use borrow.Author.Tests.{ltb-true, ltb-false}
 use Rattle.calendar.specs.Plain.{monthDays}
-use Rattle.calendar.specs.Closed.{kindAt, monthStart, yearStart, placeAt, count, Proper, Split, Held}
+use Rattle.calendar.specs.Closed.{kindAt, leap, monthStart, yearStart, placeAt, count, Proper, Split, monthFromMarch, dayInMonth, fromMarch, ofThirty, placeOf, packed, unpacked}
 use Rattle.calendar.specs.declared.rule.Rule.{Rule}
+use Rattle.calendar.specs.declared.rule.YearDay.{YearDay}
 use Rattle.calendar.specs.declared.place.Place.{Place}
-use Rattle.calendar.proofs.Years.{year-law, year-zero, year-least, kind-low}
-use Rattle.calendar.proofs.Tables.{month-days}
+use Rattle.calendar.proofs.Years.{YearSplit, year-day, year-law, year-zero, year-least, kind-low, of-leap-low, thirty-days}
+use Rattle.calendar.proofs.Tables.{DayOfMonth, month-days, march-on, january-on, thirty-on, year-days}
 
 -- ---- a sequence that does not fall
 
@@ -131,18 +132,51 @@ at-count r n = at-facts r n .1
 pub at-is : (r : Rule) (p : Place) (n : ℕ) → Proper r p → count r p ≡ n → at r n ≡ p
 at-is r p n h e = same-place r (at r n) p (at-proper r n) h (at-count r n ∙ sym e)
 
--- the place of a day from its year, the kind of the year, and its month
-pub split-place : (r : Rule) (n y m k a b : ℕ) → k ≡ kindAt r y → a ≡ yearStart r y → b ≡ monthStart k m → yearStart r y ≤ n → Held k m (n - a) → Split r n (placeAt y m (n - a - b))
+-- ---- the place of a day from its year
+
+-- day e of year y, as day i of month m
+split-year : (r : Rule) (n y m i e : ℕ) → DayOfMonth (kindAt r y) m i e → yearStart r y + e ≡ n → Split r n (placeAt y m i)
 unfolding count
-split-place r n y m k a b e f g l h =
-    let d : n - a - b < monthDays k m = omega (arith, h .from, h .to, month-end k m) in
-    record {
-      proper = record { month = h .month; day = subst (λ (j : ℕ). n - a - b < monthDays j m) e d };
-      counted = omega (arith, h .from, ap (λ (j : ℕ). monthStart j m) e);
-    }
+split-year r n y m i e h g = record { proper = record { month = h .month; day = h .day }; counted = omega (arith, h .counted) }
+
+-- a day of a year that begins with March, of a rule without years of 360 days
+pub split-march : (r : Rule) → ((y : ℕ) → kindAt r y < 2) → (n : ℕ) (t : YearDay) → YearSplit r (n + 306) t → Split r n (fromMarch t)
+split-march r u n t s = go _ refl (t .y) refl
+  where
+    go : (b : Bool) → ltb (t .d) 306 ≡ b → (y : ℕ) → t .y ≡ y → Split r n (placeAt (t .y - cond b 1 0) (monthFromMarch (t .d) + 12 * cond b 1 0 - 10) (dayInMonth (t .d)))
+    go true e zero f = absurd (omega (arith, ltb-true (t .d) 306 e, s .counted, ap (yearStart r) f, year-zero r))
+    go true e (suc y) f =
+        let d = t .d in
+        let is = split-year r n y _ _ _ (march-on (kindAt r y) d (u y) (ltb-true d 306 e)) (omega (arith, s .counted, ap (yearStart r) f, year-law r y, year-days (kindAt r y) (u y))) in
+        subst (Split r n) (place-eq (omega arith) (omega arith) refl) is
+    go false e y f =
+        let d = t .d in
+        let k = kindAt r (t .y) in
+        let g : 306 + (d - 306) ≡ d = omega (arith, ltb-false d 306 e) in
+        let is = split-year r n (t .y) _ _ _ (january-on k (d - 306) (u (t .y)) (omega (arith, s .inside, year-days k (u (t .y)), ltb-false d 306 e))) (omega (arith, s .counted, ltb-false d 306 e)) in
+        subst (Split r n) (place-eq (omega arith) (omega arith) (ap dayInMonth g)) is
+
+-- a day of a year of 360 days
+pub split-thirty : (n : ℕ) (t : YearDay) → YearSplit Rule.Thirty n t → Split Rule.Thirty n (ofThirty t)
+unfolding kindAt
+split-thirty n t s = split-year Rule.Thirty n (t .y) _ _ _ (thirty-on (t .d) (omega (arith, s .inside, thirty-days))) (s .counted)
+
+pub place-split : (r : Rule) (n : ℕ) → Split r n (placeOf r n)
+unfolding kindAt
+place-split Rule.Gregorian n = split-march Rule.Gregorian (λ y. of-leap-low (leap y)) n _ (year-day Rule.Gregorian (n + 306))
+place-split Rule.Julian n = split-march Rule.Julian (λ y. of-leap-low (eqb (y % 4) 0)) n _ (year-day Rule.Julian (n + 306))
+place-split Rule.Common n = split-march Rule.Common (λ y. omega arith) n _ (year-day Rule.Common (n + 306))
+place-split Rule.Leap n = split-march Rule.Leap (λ y. omega arith) n _ (year-day Rule.Leap (n + 306))
+place-split Rule.Thirty n = split-thirty n _ (year-day Rule.Thirty n)
 
 -- the numbers of the place of a day that is not far are small
-pub split-small : (r : Rule) (n : ℕ) (p : Place) → Split r n p → n < 2 ^ 30 → (p .y < 2 ^ 31) × (p .i < 31)
+pub place-small : (r : Rule) (n : ℕ) → n < 2 ^ 30 → (placeOf r n .y < 2 ^ 31) × ((placeOf r n .m < 12) × (placeOf r n .i < 31))
 unfolding count
-split-small r n p s h =
-    (omega (arith, s .counted, year-least r (p .y)), omega (arith, s .proper .day, month-days (kindAt r (p .y)) (p .m) (kind-low r (p .y)) (s .proper .month)))
+place-small r n h =
+    let p = placeOf r n in
+    let s = place-split r n in
+    (omega (arith, s .counted, year-least r (p .y)), (s .proper .month, omega (arith, s .proper .day, month-days (kindAt r (p .y)) (p .m) (kind-low r (p .y)) (s .proper .month))))
+
+-- a place is read back from its number
+pub unpacked-place : (p : Place) → p .m < 12 → p .i < 31 → unpacked (packed p) ≡ p
+unpacked-place p h g = place-eq (omega arith) (omega arith) (omega arith)

@@ -25,8 +25,8 @@ pub record Chain (nx pv : Date → Date) (ex : Date → Bool) : Type 0 where
   pub later : (x : Date) → ex x ≡ true → Before x (nx x)
 
 kind-by-low : (r : Rule) (y : ℤ) → kindBy r y < 3
-kind-by-low Rule.Gregorian y = of-leap-low (leapGregorian y)
-kind-by-low Rule.Julian y = of-leap-low (leapJulian y)
+kind-by-low Rule.Gregorian y = omega (arith, of-leap-low (leapGregorian y))
+kind-by-low Rule.Julian y = omega (arith, of-leap-low (leapJulian y))
 kind-by-low Rule.Common y = omega arith
 kind-by-low Rule.Leap y = omega arith
 kind-by-low Rule.Thirty y = omega arith

@@ -1,14 +1,14 @@
 -- Months by computed tests: each rule about a month or a day of the year is one test over all of them, and a law that hands out its rows.
 use mathlib.Core.Path.{_≡_, refl, subst}
 use mathlib.Core.Bool.{Bool, true, _&&_}
-use Prim.Native.Nat.{ℕ, zero, suc, _*_, _<_, _≤_}
+use Prim.Native.Nat.{ℕ, zero, suc, _+_, _-_, _*_, _/_, _%_, _<_, _≤_}
 use native.Mathlib.Omega.{arith}
 use native.Mathlib.Decide.{decLe}
-use lib.Dec.{leb, ltb, eqb}
-use borrow.Author.Tests.{leb-true, ltb-true, eqb-true}
+use lib.Dec.{ltb, eqb}
+use borrow.Author.Tests.{ltb-true, eqb-true}
 use Rattle.signed.proofs.Tests.{and-parts}
 use Rattle.calendar.specs.Plain.{monthDays}
-use Rattle.calendar.specs.Closed.{monthStart, monthStartOf, monthHolding, Held}
+use Rattle.calendar.specs.Closed.{monthStart, monthStartOf, monthFromMarch, dayInMonth}
 
 -- a test over the numbers below n
 all : (ℕ → Bool) → ℕ → Bool
@@ -57,17 +57,56 @@ month-start k m h g =
 
 -- ---- the month of a day
 
-held : ℕ → ℕ → Bool
-held k d = ltb (monthHolding k d) 12 && (leb (monthStart k (monthHolding k d)) d && ltb d (monthStart k (suc (monthHolding k d))))
+-- day i of month m is day d of a year of kind k
+pub record DayOfMonth (k m i d : ℕ) : Type 0 where
+  pub month : m < 12
+  pub day : i < monthDays k m
+  pub counted : monthStart k m + i ≡ d
 
-pub month-of : (k d : ℕ) → k < 3 → d < monthStart k 12 → Held k (monthHolding k d) d
-unfolding all held monthStart monthDays
-month-of k d h g =
-    let m = monthHolding k d in
-    let t = by-kind (λ (j : ℕ). all (held j) (monthStart j 12) ≡ true) refl refl refl k h in
-    let w = and-parts (ltb m 12) (leb (monthStart k m) d && ltb d (monthStart k (suc m))) (all-at (held k) (monthStart k 12) t d g) in
-    let v = and-parts (leb (monthStart k m) d) (ltb d (monthStart k (suc m))) (w .1) in
-    record { month = ltb-true m 12 (w .0); from = leb-true (monthStart k m) d (v .0); to = ltb-true d (monthStart k (suc m)) (v .1) }
+held : ℕ → ℕ → ℕ → ℕ → Bool
+held k m i d = ltb m 12 && (ltb i (monthDays k m) && eqb (monthStart k m + i) d)
+
+held-true : (k m i d : ℕ) → held k m i d ≡ true → DayOfMonth k m i d
+unfolding held
+held-true k m i d h =
+    let w = and-parts (ltb m 12) (ltb i (monthDays k m) && eqb (monthStart k m + i) d) h in
+    let v = and-parts (ltb i (monthDays k m)) (eqb (monthStart k m + i) d) (w .1) in
+    record { month = ltb-true m 12 (w .0); day = ltb-true i (monthDays k m) (v .0); counted = eqb-true (monthStart k m + i) d (v .1) }
+
+-- a law of the kinds of year that are not of 360 days
+by-leap : (P : ℕ → Type 0) → P 0 → P 1 → (k : ℕ) → k < 2 → P k
+by-leap P a b zero h = a
+by-leap P a b (suc zero) h = b
+by-leap P a b (suc (suc k)) h = absurd (omega arith)
+
+-- from March to December
+before-january : ℕ → ℕ → Bool
+before-january k d = held k (monthFromMarch d + 2) (dayInMonth d) (59 + k + d)
+
+pub march-on : (k d : ℕ) → k < 2 → d < 306 → DayOfMonth k (monthFromMarch d + 2) (dayInMonth d) (59 + k + d)
+unfolding all before-january held monthStart monthDays
+march-on k d h g = held-true k _ _ _ (all-at (before-january k) 306 (by-leap (λ (j : ℕ). all (before-january j) 306 ≡ true) refl refl k h) d g)
+
+-- January and February
+from-january : ℕ → ℕ → Bool
+from-january k d = held k (monthFromMarch (306 + d) - 10) (dayInMonth (306 + d)) d
+
+pub january-on : (k d : ℕ) → k < 2 → d < 59 + k → DayOfMonth k (monthFromMarch (306 + d) - 10) (dayInMonth (306 + d)) d
+unfolding all from-january held monthStart monthDays
+january-on k d h g = held-true k _ _ _ (all-at (from-january k) (59 + k) (by-leap (λ (j : ℕ). all (from-january j) (59 + j) ≡ true) refl refl k h) d g)
+
+-- twelve months of thirty days
+of-thirty : ℕ → Bool
+of-thirty d = held 2 (d / 30) (d % 30) d
+
+pub thirty-on : (d : ℕ) → d < 360 → DayOfMonth 2 (d / 30) (d % 30) d
+unfolding all of-thirty held monthStart monthDays
+thirty-on d g = held-true 2 _ _ _ (all-at of-thirty 360 refl d g)
+
+-- a year that is not of 360 days
+pub year-days : (k : ℕ) → k < 2 → monthStart k 12 ≡ 365 + k
+unfolding monthStart monthDays
+year-days = by-leap (λ (k : ℕ). monthStart k 12 ≡ 365 + k) refl refl
 
 -- a year has at most 366 days
 pub year-short : (k : ℕ) → k < 3 → monthStart k 12 ≤ 366

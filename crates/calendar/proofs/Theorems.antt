@@ -11,11 +11,11 @@ use borrow.Author.Tests.{leb-true, ltb-true, ltb-false, eqb-false}
 use Rattle.refusal.specs.declared.Refusal.the-variants.{NoSuchDate, OutOfRange}
 use Rattle.signed.proofs.Tests.{and-parts}
 use Rattle.signed.proofs.Differences.{sub-low, sub-high}
-use Rattle.calendar.specs.Plain.{plain, lacksYear}
+use Rattle.calendar.specs.Plain.{lacksYear}
 use Rattle.calendar.specs.Calendar.{hasYearZero, next, prev, dateOf, exists, inYears, date, rowOf, nextBy, prevBy, existsBy, dateBy, epoch}
 use Rattle.calendar.specs.Order.{earlier}
 use Rattle.calendar.specs.Answers.{dayNumber, dayAnswer}
-use Rattle.calendar.specs.Closed.{yearAt, count, dayPlace, counts, lateFrom, lag, ruleAt, lagAt, ruleOfDay, dayByRule, epochDay}
+use Rattle.calendar.specs.Closed.{yearAt, count, placeOf, label, dayPlace, counts, lateFrom, lag, ruleAt, lagAt, dayByRule, placeByRule, epochDay}
 use Rattle.calendar.specs.declared.Calendar.{Calendar}
 use Rattle.calendar.specs.declared.Date.{Date}
 use Rattle.calendar.specs.declared.DayAnswer.{DayAnswer}
@@ -23,7 +23,7 @@ use Rattle.calendar.proofs.Existing.{date-eq, valid-of, valid-year}
 use Rattle.calendar.proofs.Labels.{year-low, year-high}
 use Rattle.calendar.proofs.Plain.{Chain}
 use Rattle.calendar.proofs.Walk as Walk
-use Rattle.calendar.proofs.Days.{dayDate, row-chain, row-start, dated-early, dated-late, late-small}
+use Rattle.calendar.proofs.Days.{placed-date, row-chain, row-start, dated-early, dated-late, late-small}
 use Rattle.calendar.proofs.Rows.{cutover}
 use Rattle.calendar.proofs.Range as Range
 use Rattle.calendar.proofs.Range.{lowDay, highDay}
@@ -87,13 +87,13 @@ module _ (c : Calendar) where
   range = Range.range c
 
   -- the date of day n from the first place of the late rule, by the closed forms
-  pub date-by-count : (n : ℕ) → dateOf c (subℕ n (epochDay c)) ≡ dayDate (plain (ruleOfDay (counts c) n) (hasYearZero c)) (dayByRule (counts c) n)
+  pub date-by-place : (n : ℕ) → dateOf c (subℕ n (epochDay c)) ≡ label (hasYearZero c) (placeByRule (counts c) n)
   unfolding dateOf
-  date-by-count n = go (ltb n (lateFrom (counts c))) refl
+  date-by-place n = go (ltb n (lateFrom (counts c))) refl
     where
-      go : (t : Bool) → ltb n (lateFrom (counts c)) ≡ t → dateBy (rowOf c) (subℕ n (epochDay c)) ≡ dayDate (plain (cond t (counts c .early) (counts c .late)) (hasYearZero c)) (cond t (n + lag (counts c)) n)
-      go true e = dated-early (rowOf c) (cutover c) n (ltb-true n (lateFrom (counts c)) e)
-      go false e = dated-late (rowOf c) (cutover c) n (ltb-false n (lateFrom (counts c)) e)
+      go : (t : Bool) → ltb n (lateFrom (counts c)) ≡ t → dateBy (rowOf c) (subℕ n (epochDay c)) ≡ label (hasYearZero c) (placeOf (cond t (counts c .early) (counts c .late)) (cond t (n + lag (counts c)) n))
+      go true e = dated-early (rowOf c) (cutover c) n (ltb-true n (lateFrom (counts c)) e) ∙ sym (placed-date (counts c .early) (hasYearZero c) (n + lag (counts c)))
+      go false e = dated-late (rowOf c) (cutover c) n (ltb-false n (lateFrom (counts c)) e) ∙ sym (placed-date (counts c .late) (hasYearZero c) n)
 
   pub day-by-rule-small : (n : ℕ) → n < 2 ^ 30 → dayByRule (counts c) n < 2 ^ 30
   day-by-rule-small n h = go (ltb n (lateFrom (counts c))) refl

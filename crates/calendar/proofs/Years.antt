@@ -3,11 +3,13 @@ use mathlib.Core.Path.{_≡_, refl, ap}
 use mathlib.Core.Bool.{Bool, true, false, not, _&&_, _||_, or-true, and-false}
 use Prim.Native.Nat.{ℕ, zero, suc, _+_, _-_, _/_, _*_, _%_, _<_, _≤_}
 use native.Mathlib.Omega.{arith}
+use native.Mathlib.Decide.{decLe}
 use lib.Dec.{eqb}
 use borrow.Author.Tests.{eqb-true, eqb-false, eq-eqb, ne-eqb}
 use Rattle.calendar.specs.Plain.{monthDays, ofLeap}
-use Rattle.calendar.specs.Closed.{kindAt, monthStart, yearStart, guess, leap}
+use Rattle.calendar.specs.Closed.{kindAt, monthStart, yearStart, julianCount, dayOfYear, yearDay, leap}
 use Rattle.calendar.specs.declared.rule.Rule.{Rule}
+use Rattle.calendar.specs.declared.rule.YearDay.{YearDay}
 
 -- (y + k - 1) / k grows by one just after a multiple of k
 four-yes : (y : ℕ) → y % 4 ≡ 0 → (suc y + 3) / 4 ≡ (y + 3) / 4 + 1
@@ -48,7 +50,7 @@ leap-days : monthStart 1 12 ≡ 366
 unfolding monthStart monthDays
 leap-days = refl
 
-thirty-days : monthStart 2 12 ≡ 360
+pub thirty-days : monthStart 2 12 ≡ 360
 unfolding monthStart monthDays
 thirty-days = refl
 
@@ -84,14 +86,14 @@ year-zero Rule.Leap = refl
 year-zero Rule.Thirty = refl
 
 -- a line of the table
-pub of-leap-low : (b : Bool) → ofLeap b < 3
+pub of-leap-low : (b : Bool) → ofLeap b < 2
 of-leap-low true = omega arith
 of-leap-low false = omega arith
 
 pub kind-low : (r : Rule) (y : ℕ) → kindAt r y < 3
 unfolding kindAt
-kind-low Rule.Gregorian y = of-leap-low (leap y)
-kind-low Rule.Julian y = of-leap-low (eqb (y % 4) 0)
+kind-low Rule.Gregorian y = omega (arith, of-leap-low (leap y))
+kind-low Rule.Julian y = omega (arith, of-leap-low (eqb (y % 4) 0))
 kind-low Rule.Common y = omega arith
 kind-low Rule.Leap y = omega arith
 kind-low Rule.Thirty y = omega arith
@@ -143,39 +145,56 @@ year-most Rule.Common y = omega arith
 year-most Rule.Leap y = omega arith
 year-most Rule.Thirty y = omega arith
 
--- ---- the year of day n is the guess or the year before it
+-- ---- day n within its year
 
--- a Gregorian year's start is near 146097 / 400 days for each year
-mean-low : (y : ℕ) → 146097 * y ≤ 400 * yearStart Rule.Gregorian y + 399
+-- a Gregorian year starts earlier than the Julian one, by a day for three of four century years before it
+lagging : (y : ℕ) → yearStart Rule.Gregorian y + 3 * ((y + 99) / 100) / 4 ≡ yearStart Rule.Julian y
 unfolding yearStart
-mean-low y = omega (arith, room y)
+lagging y = omega (arith, room y)
 
-mean-high : (y : ℕ) → 400 * yearStart Rule.Gregorian y ≤ 146097 * y + 2000
+-- the century years that julianCount counts are those before the year of its day
+century : (n : ℕ) → (4 * julianCount n / 1461 + 99) / 100 ≡ (4 * n + 144636) / 146097
+century n = omega arith
+
+-- and the day lies before the next year, also where that is the first of a century
+century-end : (n k y : ℕ) → 4 * n + 144636 < 146097 * suc k → 4 * (n + 3 * k / 4) < 1461 * suc y → (y + 99) / 100 ≡ k → n + 3 * ((suc y + 99) / 100) / 4 < yearStart Rule.Julian (suc y)
 unfolding yearStart
-mean-high y = omega (arith, room y)
+century-end n k y g h e = go (decLe (suc y) (100 * k))
+  where
+    same : (c q : ℕ) → c ≡ k → suc y + 3 ≤ 4 * q + 3 → n + 3 * c / 4 < 365 * suc y + q
+    same c q f l = omega (arith, ap (λ (x : ℕ). 3 * x / 4) f)
 
-pub guess-high : (r : Rule) (n : ℕ) → n < yearStart r (guess r n + 1)
+    next : (c q : ℕ) → c ≡ suc k → y ≡ 100 * k → q ≡ 25 * k + 1 → n + 3 * c / 4 < 365 * suc y + q
+    next c q f l m = omega (arith, ap (λ (x : ℕ). 3 * x / 4) f)
+
+    go : Dec (suc y ≤ 100 * k) → n + 3 * ((suc y + 99) / 100) / 4 < 365 * suc y + (suc y + 3) / 4
+    go (yes l) = same _ _ (omega arith) (omega arith)
+    go (no l) = next _ _ (omega arith) (omega arith) (omega arith)
+
+-- day d of year y is day n
+pub record YearSplit (r : Rule) (n : ℕ) (t : YearDay) : Type 0 where
+  pub counted : yearStart r (t .y) + t .d ≡ n
+  pub inside : t .d < monthStart (kindAt r (t .y)) 12
+
+-- a day of a year comes before the next year
+before-next : (r : Rule) (n y d : ℕ) → yearStart r y + d ≡ n → n < yearStart r (suc y) → YearSplit r n (dayOfYear y d)
+before-next r n y d e h = record { counted = e; inside = omega (arith, year-law r y) }
+
+julian-day : (n : ℕ) → YearSplit Rule.Julian n (yearDay Rule.Julian n)
 unfolding yearStart
-guess-high Rule.Gregorian n = omega (arith, mean-low ((n + 1) * 400 / 146097 + 1))
-guess-high Rule.Julian n = omega arith
-guess-high Rule.Common n = omega arith
-guess-high Rule.Leap n = omega arith
-guess-high Rule.Thirty n = omega arith
+julian-day n = before-next Rule.Julian n _ _ (omega arith) (omega arith)
 
-pub guess-low : (r : Rule) (n : ℕ) → yearStart r (guess r n - 1) ≤ n
+gregorian-day : (n k y d : ℕ) → 4 * n + 144636 < 146097 * suc k → 4 * (n + 3 * k / 4) < 1461 * suc y → (y + 99) / 100 ≡ k → yearStart Rule.Julian y + d ≡ n + 3 * k / 4 → YearSplit Rule.Gregorian n (dayOfYear y d)
+gregorian-day n k y d g h e s =
+    before-next Rule.Gregorian n y d (omega (arith, lagging y, ap (λ (c : ℕ). 3 * c / 4) e)) (omega (arith, lagging (suc y), century-end n k y g h e))
+
+pub year-day : (r : Rule) (n : ℕ) → YearSplit r n (yearDay r n)
 unfolding yearStart
-guess-low Rule.Gregorian n = omega (arith, mean-high ((n + 1) * 400 / 146097 - 1))
-guess-low Rule.Julian n = omega arith
-guess-low Rule.Common n = omega arith
-guess-low Rule.Leap n = omega arith
-guess-low Rule.Thirty n = omega arith
-
-pub guess-small : (r : Rule) (n : ℕ) → guess r n ≤ n + 1
-guess-small Rule.Gregorian n = omega arith
-guess-small Rule.Julian n = omega arith
-guess-small Rule.Common n = omega arith
-guess-small Rule.Leap n = omega arith
-guess-small Rule.Thirty n = omega arith
+year-day Rule.Gregorian n = gregorian-day n _ _ _ (omega arith) (omega arith) (century n) (julian-day (julianCount n) .counted)
+year-day Rule.Julian n = julian-day n
+year-day Rule.Common n = before-next Rule.Common n _ _ (omega arith) (omega arith)
+year-day Rule.Leap n = before-next Rule.Leap n _ _ (omega arith) (omega arith)
+year-day Rule.Thirty n = before-next Rule.Thirty n _ _ (omega arith) (omega arith)
 
 pub year-pos : (r : Rule) (y : ℕ) → 0 < yearStart r y → 1 ≤ y
 year-pos r zero h = omega (arith, year-zero r)

@@ -1,16 +1,17 @@
 -- Closed forms, which only private functions compute; no promise to a caller rests on them. proofs/ joins them to the next-day rule.
 -- All over natural numbers: year y of a place is counted from year -10000, a month and a day from 0.
 use mathlib.Core.Bool.{Bool, false, not, _&&_, _||_, cond}
-use Prim.Native.Nat.{ℕ, zero, suc, _+_, _-_, _*_, _/_, _%_, _<_, _≤_}
+use Prim.Native.Nat.{ℕ, zero, suc, _+_, _-_, _*_, _/_, _%_, _<_, _^_}
 use lib.Dec.{leb, ltb, eqb}
 use lib.IntN.{ℤ, pos, subℕ}
 use mathlib.Core.Path.{_≡_}
 use Rattle.signed.specs.Bias.{lift}
 use Rattle.calendar.specs.Plain.{monthDays, ofLeap, date}
-use Rattle.calendar.specs.Calendar.{CalendarRow, rowOf}
+use Rattle.calendar.specs.Calendar.{CalendarRow, rowOf, hasYearZero, dateOf}
 use Rattle.calendar.specs.declared.Calendar.{Calendar}
 use Rattle.calendar.specs.declared.Date.{Date}
 use Rattle.calendar.specs.declared.rule.Rule.{Rule}
+use Rattle.calendar.specs.declared.rule.YearDay.{YearDay}
 use Rattle.calendar.specs.declared.place.Place.{Place}
 use Rattle.calendar.specs.declared.row.CountedRow.{CountedRow}
 use Rattle.calendar.specs.declared.YearCount.{YearCount}
@@ -36,13 +37,20 @@ yearStart Rule.Common y = 365 * y
 yearStart Rule.Leap y = 366 * y
 yearStart Rule.Thirty y = 360 * y
 
--- the year of day n, or the year after it
-abbrev pub guess : Rule → ℕ → ℕ
-guess Rule.Gregorian n = (n + 1) * 400 / 146097
-guess Rule.Julian n = n * 4 / 1461
-guess Rule.Common n = n / 365
-guess Rule.Leap n = n / 366
-guess Rule.Thirty n = n / 360
+-- day n of the Gregorian rule by the Julian one, which has a day more in three of four century years
+abbrev pub julianCount : ℕ → ℕ
+julianCount n = n + 3 * ((4 * n + 144636) / 146097) / 4
+
+abbrev pub dayOfYear : ℕ → ℕ → YearDay
+dayOfYear y d = record { y = y; d = d }
+
+-- day n within its year
+abbrev pub yearDay : Rule → ℕ → YearDay
+yearDay Rule.Gregorian n = dayOfYear (4 * julianCount n / 1461) (4 * julianCount n % 1461 / 4)
+yearDay Rule.Julian n = dayOfYear (4 * n / 1461) (4 * n % 1461 / 4)
+yearDay Rule.Common n = dayOfYear (n / 365) (n % 365)
+yearDay Rule.Leap n = dayOfYear (n / 366) (n % 366)
+yearDay Rule.Thirty n = dayOfYear (n / 360) (n % 360)
 
 -- ---- months
 
@@ -54,16 +62,6 @@ monthStart k (suc m) = monthStart k m + monthDays k m
 -- the same for m below 12, without a table
 abbrev pub monthStartOf : ℕ → ℕ → ℕ
 monthStartOf k m = cond (eqb k 2) (30 * m) ((367 * m + 5) / 12 - cond (ltb m 2) 0 (2 - k))
-
--- the month of day d of a year of kind k
-abbrev pub monthHolding : ℕ → ℕ → ℕ
-monthHolding k d = cond (eqb k 2) (d / 30) ((12 * cond (ltb d (59 + k)) d (d + 2 - k) + 6) / 367)
-
--- day d of a year of kind k lies in month m
-pub record Held (k m d : ℕ) : Type 0 where
-  pub month : m < 12
-  pub from : monthStart k m ≤ d
-  pub to : d < monthStart k (suc m)
 
 -- ---- places
 
@@ -84,6 +82,40 @@ pub record Split (r : Rule) (n : ℕ) (p : Place) : Type 0 where
   pub proper : Proper r p
   pub counted : count r p ≡ n
 
+-- the month of day d of a year that begins with March, from March on, and its day of that month
+abbrev pub monthFromMarch : ℕ → ℕ
+monthFromMarch d = (5 * d + 2) / 153
+
+abbrev pub dayInMonth : ℕ → ℕ
+dayInMonth d = d - (153 * monthFromMarch d + 2) / 5
+
+-- March to December, 306 days, lie in the year before that of January and February
+abbrev pub yearsBack : ℕ → ℕ
+yearsBack d = cond (ltb d 306) 1 0
+
+-- the place of a day of the year that begins with March and ends with February of year y
+abbrev pub fromMarch : YearDay → Place
+fromMarch t = placeAt (t .y - yearsBack (t .d)) (monthFromMarch (t .d) + 12 * yearsBack (t .d) - 10) (dayInMonth (t .d))
+
+-- the place of a day of a year of 360 days
+abbrev pub ofThirty : YearDay → Place
+ofThirty t = placeAt (t .y) (t .d / 30) (t .d % 30)
+
+-- the place of day n
+abbrev pub placeOf : Rule → ℕ → Place
+placeOf Rule.Gregorian n = fromMarch (yearDay Rule.Gregorian (n + 306))
+placeOf Rule.Julian n = fromMarch (yearDay Rule.Julian (n + 306))
+placeOf Rule.Common n = fromMarch (yearDay Rule.Common (n + 306))
+placeOf Rule.Leap n = fromMarch (yearDay Rule.Leap (n + 306))
+placeOf Rule.Thirty n = ofThirty (yearDay Rule.Thirty n)
+
+-- a place as one number, and back
+abbrev pub packed : Place → ℕ
+packed p = 512 * p .y + 32 * p .m + p .i
+
+abbrev pub unpacked : ℕ → Place
+unpacked w = placeAt (w / 512) (w / 32 % 16) (w % 32)
+
 -- ---- places as dates
 
 -- the year that year y of a place is called, with or without a year 0
@@ -92,12 +124,6 @@ yearAt z y = subℕ y (cond (not z && leb y 10000) 10001 10000)
 
 abbrev pub label : Bool → Place → Date
 label z p = date (yearAt z (p .y)) (p .m + 1) (p .i + 1)
-
--- d is the date of day n of a rule
-pub record Labelled (z : Bool) (r : Rule) (n : ℕ) (d : Date) : Type 0 where
-  pub at : Place
-  pub split : Split r n at
-  pub is : d ≡ label z at
 
 -- the count from -10000 of a year, where the calendar has the year
 abbrev pub Counted : Bool → ℤ → YearCount → Type 0
@@ -167,6 +193,10 @@ ruleOfDay k n = cond (ltb n (lateFrom k)) (k .early) (k .late)
 abbrev pub dayByRule : CountedRow → ℕ → ℕ
 dayByRule k n = cond (ltb n (lateFrom k)) (n + lag k) n
 
+-- the place of day n
+abbrev pub placeByRule : CountedRow → ℕ → Place
+placeByRule k n = placeOf (ruleOfDay k n) (dayByRule k n)
+
 -- ---- a calendar's numbers, in days from place 0 0 0 of its late rule
 
 -- 1970-01-01
@@ -192,3 +222,9 @@ firstDay c = rowStart (counts c)
 
 abbrev pub endDay : Calendar → ℕ
 endDay c = rowEnd (counts c)
+
+-- ---- the place of a calendar's day, as one number
+
+pub record PlaceOfDay (c : Calendar) (z : ℤ) (w : ℕ) : Type 0 where
+  pub small : w < 2 ^ 40
+  pub dated : label (hasYearZero c) (unpacked w) ≡ dateOf c z

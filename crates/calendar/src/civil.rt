@@ -2,8 +2,8 @@
 ghost use mathlib.Core.Path.{_≡_};
 ghost use Prim.Native.Nat.{_<_, _^_};
 ghost use lib.IntN.{subℕ};
-ghost use Rattle.calendar.specs.Calendar.{dateOf};
-ghost use Rattle.calendar.specs.Closed.{yearAt, Labelled, counts, ruleOfDay, dayByRule, epochDay};
+ghost use Rattle.calendar.specs.Calendar.{hasYearZero};
+ghost use Rattle.calendar.specs.Closed.{yearAt, label, unpacked, counts, ruleOfDay, dayByRule, epochDay, PlaceOfDay};
 use crate::Calendar;
 use crate::Date;
 use crate::place;
@@ -22,19 +22,6 @@ pub fn year_name(zero: bool, y: u64) -> i64
         return signed::unbiased(y + (0x8000_0000_0000_0000 - 10001));
     }
     return signed::unbiased(y + (0x8000_0000_0000_0000 - 10000));
-}
-
-// The date of day n of a rule.
-fn date_by_rule(zero: bool, r: Rule, n: u64) -> Date
-    requires { ⌜ n < 2 ^ 30 ⌝ }
-    ensures { λ d. ⌜ Labelled zero r n d ⌝ }
-{
-    let p = place::place_of(r, n);
-    Date {
-        year: year_name(zero, p.y),
-        month: (p.m + 1) as u32,
-        day: (p.i + 1) as u32,
-    }
 }
 
 // The rule of the part that day n belongs to.
@@ -59,11 +46,23 @@ fn day_by_rule(c: Calendar, n: u64) -> u64
     return n;
 }
 
-// The date of day n of a calendar.
-pub fn date_at(c: Calendar, n: u64) -> Date
+// The place of day n of a calendar, as one number: an answer in a register, where a place and a date would go through memory.
+pub fn packed_place(c: Calendar, n: u64) -> u64
     requires { ⌜ n < 2 ^ 30 ⌝ }
-    ensures { λ d. ⌜ d ≡ dateOf c (subℕ n (epochDay c)) ⌝ }
+    ensures { λ w. ⌜ PlaceOfDay c (subℕ n (epochDay c)) w ⌝ }
 {
-    let r = row::row_of(c);
-    date_by_rule(r.zero, rule_of_day(c, n), day_by_rule(c, n))
+    let p = place::place_of(rule_of_day(c, n), day_by_rule(c, n));
+    512 * p.y + 32 * p.m as u64 + p.i
+}
+
+// The date of such a place.
+pub fn date_of_packed(c: Calendar, w: u64) -> Date
+    requires { ⌜ w < 2 ^ 40 ⌝ }
+    ensures { λ d. ⌜ d ≡ label (hasYearZero c) (unpacked w) ⌝ }
+{
+    Date {
+        year: year_name(crate::has_year_zero(c), w / 512),
+        month: (w / 32 % 16 + 1) as u32,
+        day: (w % 32 + 1) as u32,
+    }
 }

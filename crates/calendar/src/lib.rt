@@ -6,7 +6,7 @@ ghost use Prim.Native.Nat.{_-_, _≤_};
 ghost use Rattle.signed.specs.Bias.{unbiased};
 ghost use Rattle.calendar.specs.Answers.{dateAnswer, dayAnswer};
 ghost use Rattle.calendar.specs.Calendar.{hasYearZero, inYears, dateOf};
-ghost use Rattle.calendar.specs.Closed.{epochDay, firstYear, firstDay, endDay, Counted};
+ghost use Rattle.calendar.specs.Closed.{epochDay, firstYear, firstDay, endDay, Counted, PlaceOfDay};
 use refusal::Refusal;
 
 pub mod civil;
@@ -103,12 +103,12 @@ fn day_in_years(c: Calendar, k: u64) -> bool
     return k - origin(c) < end_day(c);
 }
 
-// The date of such a day number.
-fn date_in_years(c: Calendar, k: u64) -> Date
+// The place of such a day number.
+fn place_in_years(c: Calendar, k: u64) -> u64
     requires { ⌜ inYears (dateOf c (unbiased k) .year) ≡ true ⌝ }
-    ensures { λ d. ⌜ d ≡ dateOf c (unbiased k) ⌝ }
+    ensures { λ w. ⌜ PlaceOfDay c (unbiased k) w ⌝ }
 {
-    civil::date_at(c, k - origin(c))
+    civil::packed_place(c, k - origin(c))
 }
 
 // The date of the day number k - 2^63; OutOfRange where its year lies past -9999 to 9999.
@@ -116,7 +116,7 @@ pub fn date_of_biased_day(c: Calendar, k: u64) -> DateAnswer
     ensures { λ r. ⌜ r ≡ dateAnswer c (unbiased k) ⌝ }
 {
     if day_in_years(c, k) {
-        return DateAnswer::Is(date_in_years(c, k));
+        return DateAnswer::Is(civil::date_of_packed(c, place_in_years(c, k)));
     }
     return DateAnswer::Refused(Refusal::OutOfRange);
 }
@@ -128,7 +128,7 @@ pub fn date_of_day(c: Calendar, n: i64) -> DateAnswer
 {
     let k = signed::biased(n);
     if day_in_years(c, k) {
-        return DateAnswer::Is(date_in_years(c, k));
+        return DateAnswer::Is(civil::date_of_packed(c, place_in_years(c, k)));
     }
     return DateAnswer::Refused(Refusal::OutOfRange);
 }

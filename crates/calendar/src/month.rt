@@ -1,10 +1,10 @@
 // Months within a year. Kinds of year: 0 common, 1 leap, 2 of 360 days; months and days count from 0.
 ghost use mathlib.Core.Path.{_≡_};
 ghost use mathlib.Core.Bool.{cond};
-ghost use Prim.Native.Nat.{_+_, _-_, _<_};
+ghost use Prim.Native.Nat.{_-_, _<_};
 ghost use lib.Dec.{ltb};
 ghost use Rattle.calendar.specs.Plain.{monthDays};
-ghost use Rattle.calendar.specs.Closed.{monthStart, Held};
+ghost use Rattle.calendar.specs.Closed.{monthStart};
 
 const LENGTHS: [[u8; 12]; 3] = [
     [31, 28, 31, 30, 31, 30, 31, 31, 30, 31, 30, 31],
@@ -42,27 +42,4 @@ pub fn month_start(k: usize, m: usize) -> u64
         return 30 * n;
     }
     return (367 * n + 5) / 12 - short_days(j, n);
-}
-
-// A day of a year of twelve uneven months, moved on as if February had 30 days.
-fn past_february(k: u64, d: u64) -> u64
-    requires { ⌜ (k < 2) × (d < 366) ⌝ }
-    ensures { λ r. ⌜ r ≡ cond (ltb d (59 + k)) d (d + 2 - k) ⌝ }
-{
-    if d < 59 + k {
-        return d;
-    }
-    return d + 2 - k;
-}
-
-// The month of a day of the year.
-pub fn month_of(k: usize, d: u64) -> usize
-    requires { ⌜ (k < 3) × (d < monthStart k 12) ⌝ }
-    ensures { λ m. ⌜ Held k m d ⌝ }
-{
-    let j = k as u64;
-    if j == 2 {
-        return (d / 30) as usize;
-    }
-    return ((12 * past_february(j, d) + 6) / 367) as usize;
 }

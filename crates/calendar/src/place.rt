@@ -1,10 +1,11 @@
 // A day within a rule as year, month and day, each counted from 0, the year from -10000.
 ghost use mathlib.Core.Path.{_≡_};
-ghost use Prim.Native.Nat.{_<_, _^_};
-ghost use Rattle.calendar.specs.Closed.{Split, count};
+ghost use Prim.Native.Nat.{_<_, _≤_, _^_};
+ghost use Rattle.calendar.specs.Closed.{yearsBack, fromMarch, placeOf, count};
 use crate::month;
 use crate::rule;
 use crate::rule::Rule;
+use crate::rule::YearDay;
 
 pub struct Place {
     pub y: u64,
@@ -12,17 +13,47 @@ pub struct Place {
     pub i: u64,
 }
 
+// 1 for a day from March to December of a year that begins with March, 0 for one of January or February.
+fn years_back(d: u64) -> u64
+    ensures { λ e. ⌜ e ≡ yearsBack d ⌝ }
+{
+    if d < 306 {
+        return 1;
+    }
+    return 0;
+}
+
+// The place of a day of the year that begins with March and ends with February of year t.y. Its months but the last have the same
+// lengths in common years and in leap years.
+fn from_march(t: YearDay) -> Place
+    requires { ⌜ (t .d < 366) × (t .d < 306 → 1 ≤ t .y) ⌝ }
+    ensures { λ p. ⌜ p ≡ fromMarch t ⌝ }
+{
+    let m = (5 * t.d + 2) / 153;
+    let back = years_back(t.d);
+    Place {
+        y: t.y - back,
+        m: (m + 12 * back - 10) as usize,
+        i: t.d - (153 * m + 2) / 5,
+    }
+}
+
 // The place of day n.
 pub fn place_of(r: Rule, n: u64) -> Place
     requires { ⌜ n < 2 ^ 30 ⌝ }
-    ensures { λ p. ⌜ Split r n p ⌝ }
+    ensures { λ p. ⌜ p ≡ placeOf r n ⌝ }
 {
-    let y = rule::year_of(r, n);
-    let k = rule::kind_of_year(r, y);
-    let d = n - rule::year_start(r, y);
-    let m = month::month_of(k, d);
-    let i = d - month::month_start(k, m);
-    Place { y, m, i }
+    match r {
+        Rule::Thirty => {
+            let t = rule::year_day(Rule::Thirty, n);
+            return Place {
+                y: t.y,
+                m: (t.d / 30) as usize,
+                i: t.d % 30,
+            };
+        }
+        _ => return from_march(rule::year_day(r, n + 306)),
+    }
 }
 
 // The days before a place.

@@ -1,8 +1,8 @@
 // The five rules of years under the six calendars, over years counted from -10000: 10000 is a multiple of 400, so a year's number
 // leaves the same remainders as its count.
 ghost use mathlib.Core.Path.{_≡_};
-ghost use Prim.Native.Nat.{_+_, _≤_, _<_, _^_};
-ghost use Rattle.calendar.specs.Closed.{kindAt, yearStart, guess};
+ghost use Prim.Native.Nat.{_<_, _^_};
+ghost use Rattle.calendar.specs.Closed.{kindAt, yearStart, julianCount, yearDay};
 
 pub enum Rule {
     Gregorian,
@@ -58,28 +58,49 @@ pub fn year_start(r: Rule, y: u64) -> u64
     }
 }
 
-// The year of day n, or the year after it.
-fn year_near(r: Rule, n: u64) -> u64
-    requires { ⌜ n < 2 ^ 30 ⌝ }
-    ensures { λ y. ⌜ y ≡ guess r n ⌝ }
+// Day n of the Gregorian rule by the Julian one, which has a day more in three of four century years.
+fn julian_count(n: u64) -> u64
+    requires { ⌜ n < 2 ^ 31 ⌝ }
+    ensures { λ j. ⌜ j ≡ julianCount n ⌝ }
 {
-    match r {
-        Rule::Gregorian => return (n + 1) * 400 / 146097,
-        Rule::Julian => return n * 4 / 1461,
-        Rule::Common => return n / 365,
-        Rule::Leap => return n / 366,
-        Rule::Thirty => return n / 360,
-    }
+    let centuries = (4 * n + 144636) / 146097;
+    n + 3 * centuries / 4
 }
 
-// The year of day n.
-pub fn year_of(r: Rule, n: u64) -> u64
-    requires { ⌜ n < 2 ^ 30 ⌝ }
-    ensures { λ y. ⌜ (yearStart r y ≤ n) × (n < yearStart r (y + 1)) ⌝ }
+// A day within its year, both counted from 0, the year from -10000.
+pub struct YearDay {
+    pub y: u64,
+    pub d: u64,
+}
+
+// Day n within its year.
+pub fn year_day(r: Rule, n: u64) -> YearDay
+    requires { ⌜ n < 2 ^ 31 ⌝ }
+    ensures { λ t. ⌜ t ≡ yearDay r n ⌝ }
 {
-    let y = year_near(r, n);
-    if n < year_start(r, y) {
-        return y - 1;
+    match r {
+        Rule::Gregorian => {
+            let j = julian_count(n);
+            return YearDay {
+                y: 4 * j / 1461,
+                d: 4 * j % 1461 / 4,
+            };
+        }
+        Rule::Julian => return YearDay {
+            y: 4 * n / 1461,
+            d: 4 * n % 1461 / 4,
+        },
+        Rule::Common => return YearDay {
+            y: n / 365,
+            d: n % 365,
+        },
+        Rule::Leap => return YearDay {
+            y: n / 366,
+            d: n % 366,
+        },
+        Rule::Thirty => return YearDay {
+            y: n / 360,
+            d: n % 360,
+        },
     }
-    return y;
 }

@@ -15,19 +15,16 @@ use Rattle.calendar.specs.Plain.{hasDay, kind, monthDays, plain}
 use Rattle.calendar.specs.Order.{earlier}
 use Rattle.calendar.specs.Calendar.{date, dateOf, exists, existsBy, hasYearZero, inYears, rowOf}
 use Rattle.calendar.specs.Answers.{dateAnswer, dayAnswer, dayNumber}
-use Rattle.calendar.specs.Closed.{beforePlace, count, counts, cutoverDay, dayPlace, epochDay, guess, kindAt, label, lag, lagAt, lateFrom, monthHolding, monthStart, placeAt, rowEnd, rowEpoch, rowStart, ruleAt, yearAt, yearStart}
+use Rattle.calendar.specs.Closed.{beforePlace, count, counts, cutoverDay, dayPlace, epochDay, kindAt, label, lag, lagAt, lateFrom, monthStart, placeAt, placeOf, rowEnd, rowEpoch, rowStart, ruleAt, yearAt, yearStart}
 use Rattle.calendar.specs.declared.Calendar.{Calendar}
 use Rattle.calendar.specs.declared.Date.{Date}
 use Rattle.calendar.specs.declared.DateAnswer.{DateAnswer}
 use Rattle.calendar.specs.declared.DayAnswer.{DayAnswer}
 use Rattle.calendar.specs.declared.rule.Rule.{Rule}
 use Rattle.calendar.specs.declared.place.Place.{Place}
-use Rattle.calendar.proofs.Years.{guess-high, guess-low, kind-low, year-law, year-pos}
-use Rattle.calendar.proofs.Tables.{month-of}
-use Rattle.calendar.proofs.Places.{split-place}
 use Rattle.calendar.proofs.Existing.{date-eq, valid-of, valid-year}
 use Rattle.calendar.proofs.Labels.{by-year}
-use Rattle.calendar.proofs.Days.{dated-early, dated-late, dayDate, labelled-date}
+use Rattle.calendar.proofs.Days.{dated-early, dated-late, dayDate, placed-date}
 use Rattle.calendar.proofs.Rows.{cutover}
 use Rattle.calendar.proofs.Range.{highDay, inside-of, lowDay}
 use Rattle.calendar.proofs.Counting.{numbered}
@@ -37,37 +34,11 @@ use Rattle.cases.proofs.Known.{Known, itself, equal, applied, tested, c
 
 -- ---- the date of a day number
 
--- the date of day n of a plain calendar, from its year
-unfoldable pub dateInKnown : (r : Rule) (z : Bool) (n y : ℕ) → yearStart r y ≤ n → n < yearStart r (suc y) → Known (dayDate (plain r z) n)
-unfolding kindAt yearStart monthStart monthDays
-dateInKnown r z n y l h =
-    let k = kindAt r y in
-    let a = yearStart r y in
-    let m = monthHolding k (n - a) in
-    let p = placeAt y m (n - a - monthStart k m) in
-    let s = split-place r n y m k a (monthStart k m) refl refl refl l (month-of k (n - a) (kind-low r y) (omega (arith, year-law r y))) in
-    record { value = label z p; is = sym (labelled-date (record { at = p; split = s; is = refl })) }
-
--- the year is the guess, or the year before it
-unfoldable pub dayDateKnown : (r : Rule) (z : Bool) (n : ℕ) → Known (dayDate (plain r z) n)
-unfolding dateInKnown yearStart
-dayDateKnown r z n =
-    let y = guess r n in
-    let before : n < yearStart r y → suc (y - 1) ≡ y = λ l. omega (arith, year-pos r y (omega arith)) in
-    tested (λ (b : Bool). dayDate (plain r z) n) (itself (ltb n (yearStart r y)))
-    (λ e. let l = ltb-true n (yearStart r y) e in dateInKnown r z n (y - 1) (guess-low r n) (omega (arith, ap (yearStart r) (before l))))
-    (λ e. dateInKnown r z n y (ltb-false n (yearStart r y) e) (omega (arith, guess-high r n, ap (yearStart r) (add-one y))))
-
 module _ (c : Calendar) where
   -- the date of day n, counted from place 0 0 0 of the late rule
   unfoldable pub countedKnown : (n : ℕ) → Known (dateOf c (subℕ n (epochDay c)))
-  unfolding dateOf dayDateKnown lag cutoverDay count kindAt yearStart monthStart monthDays
-  countedKnown n =
-      let r = rowOf c in
-      let k = lateFrom (counts c) in
-      tested (λ (b : Bool). dateOf c (subℕ n (epochDay c))) (itself (ltb n k))
-      (λ e. equal (dated-early r (cutover c) n (ltb-true n k e)) (dayDateKnown (r .early) (r .zero) (n + lag (counts c))))
-      (λ e. equal (dated-late r (cutover c) n (ltb-false n k e)) (dayDateKnown (r .late) (r .zero) n))
+  unfolding lag cutoverDay count kindAt yearStart monthStart monthDays
+  countedKnown n = record { value = label (hasYearZero c) (placeByRule (counts c) n); is = date-by-place c n }
 
   -- the date of a day number of the range
   unfoldable pub dateOfKnown : (z : ℤ) → inYears (dateOf c z .year) ≡ true → Known (dateOf c z)

@@ -7,14 +7,15 @@ use borrow.Author.Needs.{needs}
 use Rattle.calendar.proofs.date_of_biased_day.Statement.{statement}
 use Rattle.calendar.proofs.date_of_biased_day.Tie as tie
 
-date-in-years-requires : tie.Need-date-in-years-requires
-date-in-years-requires c κs = sym (c .before .day-in-years .ensures) ∙ c .if1 .taken
+place-in-years-requires : tie.Need-place-in-years-requires
+place-in-years-requires c κs = sym (c .before .day-in-years .ensures) ∙ c .if1 .taken
 
 returns : tie.Need-returns
 returns c =
-    let d = c .before .before in
+    let p = c .before in
+    let d = p .before .before in
     let s = d .before in
-    ap DateAnswer.Is (c .date-in-years .ensures) ∙ in-range (s .args .c) (unbiased (s .args .k)) (sym (d .day-in-years .ensures) ∙ c .before .if1 .taken)
+    ap DateAnswer.Is (c .date-of-packed .ensures ∙ p .place-in-years .ensures .dated) ∙ in-range (s .args .c) (unbiased (s .args .k)) (sym (d .day-in-years .ensures) ∙ p .before .if1 .taken)
 
 returns-2 : tie.Need-returns-2
 returns-2 c =
@@ -26,6 +27,7 @@ date-of-biased-day-spec =
     tie.close
     (tie.spec
     (λ c κs. search needs)
-    date-in-years-requires
+    place-in-years-requires
+    (λ c κs. c .place-in-years .ensures .small)
     returns
     returns-2)

@@ -9,16 +9,17 @@ use borrow.Author.Needs.{needs}
 use Rattle.calendar.proofs.date_of_day.Statement.{statement}
 use Rattle.calendar.proofs.date_of_day.Tie as tie
 
-date-in-years-requires : tie.Need-date-in-years-requires
-date-in-years-requires c κs = sym (c .before .day-in-years .ensures) ∙ c .if1 .taken
+place-in-years-requires : tie.Need-place-in-years-requires
+place-in-years-requires c κs = sym (c .before .day-in-years .ensures) ∙ c .if1 .taken
 
 returns : tie.Need-returns
 returns c =
-    let d = c .before .before in
+    let p = c .before in
+    let d = p .before .before in
     let b = d .before in
     let s = b .before in
-    ap DateAnswer.Is (c .date-in-years .ensures)
-    ∙ (in-range (s .args .c) (unbiased (b .biased .result)) (sym (d .day-in-years .ensures) ∙ c .before .if1 .taken)
+    ap DateAnswer.Is (c .date-of-packed .ensures ∙ p .place-in-years .ensures .dated)
+    ∙ (in-range (s .args .c) (unbiased (b .biased .result)) (sym (d .day-in-years .ensures) ∙ p .before .if1 .taken)
     ∙ ap (dateAnswer (s .args .c)) (crossed (s .args .n) (b .biased .result) (s .fits .n) (b .biased .ensures)))
 
 returns-2 : tie.Need-returns-2
@@ -35,6 +36,7 @@ date-of-day-spec =
     (tie.spec
     (λ c κs. search needs)
     (λ c κs. search needs)
-    date-in-years-requires
+    place-in-years-requires
+    (λ c κs. c .place-in-years .ensures .small)
     returns
     returns-2)
