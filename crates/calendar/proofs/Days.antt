@@ -1,7 +1,7 @@
 -- The dates of a row by their count: those of its early part before the cutover's day, and those of its late part, which lags, from
 -- there on.
 use mathlib.Core.Path.{_≡_, refl, sym, ap, _∙_, subst}
-use mathlib.Core.Bool.{Bool, true, false, not, _&&_, cond}
+use mathlib.Core.Bool.{Bool, true, false, _&&_, cond}
 use Prim.Native.Nat.{ℕ, suc, _+_, _-_, _<_, _≤_}
 use native.Mathlib.Omega.{arith}
 use native.Mathlib.Decide.{decLe}
@@ -11,7 +11,7 @@ use borrow.Author.Tests.{ltb-true, ltb-false, lt-ltb, le-ltb, eqb-true, not-fals
 use Rattle.signed.specs.Bias.{lift}
 use Rattle.signed.proofs.Tests.{and-parts}
 use Rattle.signed.proofs.Differences.{same-diff}
-use Rattle.calendar.specs.Plain.{Plain, plain, monthDays, kind, lastDay, date, dayAfter, hasDay}
+use Rattle.calendar.specs.Plain.{Plain, plain, monthDays, lastDay, date, dayAfter, hasDay}
 use Rattle.calendar.specs.Calendar.{CalendarRow, earlyPart, latePart, nextBy, prevBy, existsBy, dateBy, epoch}
 use Rattle.calendar.specs.Closed.{kindAt, yearStart, placeAt, count, Proper, placeOf, yearAt, label, dayPlace, countedRow, mixed, cutoverDay, lateFrom, lag, rowEpoch}
 use Rattle.calendar.specs.declared.Date.{Date}

@@ -1,8 +1,7 @@
 -- The rows of the six calendars meet what a cutover must satisfy; and a plain row is its plain calendar.
 use mathlib.Core.Path.{_≡_, refl, sym, ap, _∙_}
-use mathlib.Core.Bool.{Bool, true, false, not, _&&_, cond, true≢false}
+use mathlib.Core.Bool.{Bool, true, false, _&&_, cond, true≢false}
 use native.Mathlib.Omega.{arith}
-use lib.Dec.{ltb}
 use lib.IntN.{pos}
 use borrow.Author.Tests.{lt-ltb}
 use Rattle.calendar.specs.Plain.{monthDays, plain, lastDay, date, dayAfter, dayBefore, hasDay}

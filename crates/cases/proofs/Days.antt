@@ -1,36 +1,29 @@
 -- The date of a day number and the day number of a date, each found by the closed forms of crate `calendar`.
 use mathlib.Core.Path.{_≡_, refl, sym, ap, _∙_}
 use mathlib.Core.Bool.{Bool, true, false, _&&_}
-use Prim.Native.Nat.{ℕ, suc, _+_, _-_, _<_, _≤_}
+use Prim.Native.Nat.{ℕ, _+_, _-_}
 use native.Mathlib.Omega.{arith}
-use native.Mathlib.Numerals.{add-one}
-use lib.Dec.{ltb}
 use lib.IntN.{ℤ, pos, negsuc, subℕ}
 use lib.Signed.{leZ}
-use borrow.Author.Tests.{ltb-true, ltb-false}
 use Rattle.refusal.specs.declared.Refusal.the-variants.{NoSuchDate, OutOfRange}
 use Rattle.signed.specs.Bias.{lift}
 use Rattle.signed.proofs.Differences.{lift-sub}
-use Rattle.calendar.specs.Plain.{hasDay, kind, monthDays, plain}
+use Rattle.calendar.specs.Plain.{hasDay, kind, monthDays}
 use Rattle.calendar.specs.Order.{earlier}
-use Rattle.calendar.specs.Calendar.{date, dateOf, exists, existsBy, hasYearZero, inYears, rowOf}
+use Rattle.calendar.specs.Calendar.{date, dateOf, exists, existsBy, hasYearZero, inYears}
 use Rattle.calendar.specs.Answers.{dateAnswer, dayAnswer, dayNumber}
-use Rattle.calendar.specs.Closed.{beforePlace, count, counts, cutoverDay, dayPlace, epochDay, kindAt, label, lag, lagAt, lateFrom, monthStart, placeAt, placeOf, rowEnd, rowEpoch, rowStart, ruleAt, yearAt, yearStart}
+use Rattle.calendar.specs.Closed.{beforePlace, count, counts, cutoverDay, dayPlace, epochDay, kindAt, label, lag, lagAt, monthStart, placeByRule, rowEnd, rowEpoch, rowStart, ruleAt, yearAt, yearStart}
 use Rattle.calendar.specs.declared.Calendar.{Calendar}
 use Rattle.calendar.specs.declared.Date.{Date}
 use Rattle.calendar.specs.declared.DateAnswer.{DateAnswer}
 use Rattle.calendar.specs.declared.DayAnswer.{DayAnswer}
-use Rattle.calendar.specs.declared.rule.Rule.{Rule}
-use Rattle.calendar.specs.declared.place.Place.{Place}
 use Rattle.calendar.proofs.Existing.{date-eq, valid-of, valid-year}
 use Rattle.calendar.proofs.Labels.{by-year}
-use Rattle.calendar.proofs.Days.{dated-early, dated-late, dayDate, placed-date}
-use Rattle.calendar.proofs.Rows.{cutover}
 use Rattle.calendar.proofs.Range.{highDay, inside-of, lowDay}
 use Rattle.calendar.proofs.Counting.{numbered}
 use Rattle.calendar.proofs.Numbering.{number-is}
-use Rattle.calendar.proofs.Theorems.{count-of, range}
-use Rattle.cases.proofs.Known.{Known, itself, equal, applied, tested, chosen}
+use Rattle.calendar.proofs.Theorems.{count-of, date-by-place, range}
+use Rattle.cases.proofs.Known.{Known, itself, equal, applied, chosen}
 
 -- ---- the date of a day number
 

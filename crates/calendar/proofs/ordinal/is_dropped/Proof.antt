@@ -1,5 +1,5 @@
 use mathlib.Core.Path.{_≡_, sym, ap, _∙_}
-use mathlib.Core.Bool.{true, false, not}
+use mathlib.Core.Bool.{true, not}
 use borrow.Author.Tests.{not-true, not-false}
 use Rattle.signed.proofs.Tests.{left-out}
 use Rattle.calendar.specs.Closed.{beforePlace, counts, isEarly}
