@@ -9,7 +9,7 @@ use native.Mathlib.Decide.{decLe}
 use lib.Dec.{ltb, eqb}
 use borrow.Author.Tests.{ltb-true, ltb-false}
 use Rattle.calendar.specs.Plain.{monthDays}
-use Rattle.calendar.specs.Closed.{kindAt, leap, monthStart, yearStart, placeAt, count, Proper, Split, monthFromMarch, dayInMonth, fromMarch, ofThirty, placeOf, packed, unpacked}
+use Rattle.calendar.specs.Closed.{kindAt, leap, monthStart, yearStart, placeAt, count, Proper, Split, monthFromMarch, dayInMonth, fromMarch, ofThirty, placeOf, packedPlace, unpackedPlace}
 use Rattle.calendar.specs.declared.rule.Rule.{Rule}
 use Rattle.calendar.specs.declared.rule.YearDay.{YearDay}
 use Rattle.calendar.specs.declared.place.Place.{Place}
@@ -178,5 +178,5 @@ place-small r n h =
     (omega (arith, s .counted, year-least r (p .y)), (s .proper .month, omega (arith, s .proper .day, month-days (kindAt r (p .y)) (p .m) (kind-low r (p .y)) (s .proper .month))))
 
 -- a place is read back from its number
-pub unpacked-place : (p : Place) → p .m < 12 → p .i < 31 → unpacked (packed p) ≡ p
+pub unpacked-place : (p : Place) → p .m < 12 → p .i < 31 → unpackedPlace (packedPlace p) ≡ p
 unpacked-place p h g = place-eq (omega arith) (omega arith) (omega arith)

@@ -110,11 +110,11 @@ placeOf Rule.Leap n = fromMarch (yearDay Rule.Leap (n + 306))
 placeOf Rule.Thirty n = ofThirty (yearDay Rule.Thirty n)
 
 -- a place as one number, and back
-abbrev pub packed : Place → ℕ
-packed p = 512 * p .y + 32 * p .m + p .i
+abbrev pub packedPlace : Place → ℕ
+packedPlace p = 512 * p .y + 32 * p .m + p .i
 
-abbrev pub unpacked : ℕ → Place
-unpacked w = placeAt (w / 512) (w / 32 % 16) (w % 32)
+abbrev pub unpackedPlace : ℕ → Place
+unpackedPlace w = placeAt (w / 512) (w / 32 % 16) (w % 32)
 
 -- ---- places as dates
 
@@ -227,4 +227,4 @@ endDay c = rowEnd (counts c)
 
 pub record PlaceOfDay (c : Calendar) (z : ℤ) (w : ℕ) : Type 0 where
   pub small : w < 2 ^ 40
-  pub dated : label (hasYearZero c) (unpacked w) ≡ dateOf c z
+  pub dated : label (hasYearZero c) (unpackedPlace w) ≡ dateOf c z

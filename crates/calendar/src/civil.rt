@@ -3,7 +3,7 @@ ghost use mathlib.Core.Path.{_≡_};
 ghost use Prim.Native.Nat.{_<_, _^_};
 ghost use lib.IntN.{subℕ};
 ghost use Rattle.calendar.specs.Calendar.{hasYearZero};
-ghost use Rattle.calendar.specs.Closed.{yearAt, label, unpacked, counts, ruleOfDay, dayByRule, epochDay, PlaceOfDay};
+ghost use Rattle.calendar.specs.Closed.{yearAt, label, unpackedPlace, counts, ruleOfDay, dayByRule, epochDay, PlaceOfDay};
 use crate::Calendar;
 use crate::Date;
 use crate::place;
@@ -58,7 +58,7 @@ pub fn packed_place(c: Calendar, n: u64) -> u64
 // The date of such a place.
 pub fn date_of_packed(c: Calendar, w: u64) -> Date
     requires { ⌜ w < 2 ^ 40 ⌝ }
-    ensures { λ d. ⌜ d ≡ label (hasYearZero c) (unpacked w) ⌝ }
+    ensures { λ d. ⌜ d ≡ label (hasYearZero c) (unpackedPlace w) ⌝ }
 {
     Date {
         year: year_name(crate::has_year_zero(c), w / 512),

@@ -38,7 +38,7 @@ fn from_march(t: YearDay) -> Place
     }
 }
 
-// The place of day n.
+// The place of day n. A year that begins with March has 306 days before its January.
 pub fn place_of(r: Rule, n: u64) -> Place
     requires { ⌜ n < 2 ^ 30 ⌝ }
     ensures { λ p. ⌜ p ≡ placeOf r n ⌝ }

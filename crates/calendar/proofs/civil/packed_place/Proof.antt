@@ -3,7 +3,7 @@ use mathlib.Core.Path.{_≡_, sym, ap, subst, _∙_}
 use Prim.Native.Nat.{_<_, _^_}
 use native.Mathlib.Omega.{arith}
 use Rattle.calendar.specs.Calendar.{hasYearZero}
-use Rattle.calendar.specs.Closed.{placeOf, packed, unpacked, label, counts, placeByRule}
+use Rattle.calendar.specs.Closed.{placeOf, packedPlace, unpackedPlace, label, counts, placeByRule}
 use Rattle.calendar.specs.declared.place.Place.{Place}
 use Rattle.calendar.proofs.Places.{place-small, unpacked-place}
 use Rattle.calendar.proofs.Theorems.{date-by-place, day-by-rule-small}
@@ -38,7 +38,7 @@ returns c =
     let s = d .before .before in
     let p = l .place-of .result in
     let is : p ≡ placeByRule (counts (s .args .c)) (s .args .n) = l .place-of .ensures ∙ (λ i. placeOf (d .before .rule-of-day .ensures i) (d .day-by-rule .ensures i)) in
-    let back : unpacked (packed p) ≡ p = unpacked-place p (small l .1 .0) (small l .1 .1) in
+    let back : unpackedPlace (packedPlace p) ≡ p = unpacked-place p (small l .1 .0) (small l .1 .1) in
     record { small = omega (arith, small l); dated = ap (label (hasYearZero (s .args .c))) (back ∙ is) ∙ sym (date-by-place (s .args .c) (s .args .n)) }
 
 pub packed-place-spec : {M : Type 1} → statement M
