@@ -5,7 +5,7 @@ from uppinalo import Axis
 
 from others import NotTaken
 
-LOTS = 5
+LOTS = 25
 
 
 def _seconds(work):
