@@ -1,7 +1,7 @@
 // From a date of year y, counted from -10000, to its day.
 ghost use mathlib.Core.Path.{_≡_};
 ghost use mathlib.Core.Bool.{true};
-ghost use Prim.Native.Nat.{_<_, _≤_, _^_};
+ghost use Prim.Native.Nat.{_<_, _^_};
 ghost use Rattle.calendar.specs.Calendar.{hasYearZero, exists, date, dateOf};
 ghost use Rattle.calendar.specs.Closed.{yearAt, beforePlace, counts, isEarly, isDropped, ruleAt, lagAt};
 use crate::Calendar;

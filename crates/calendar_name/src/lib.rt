@@ -1,6 +1,5 @@
 // Calendar names (specs/Names.antt): the calendar of a name, or that the name is not listed. `calendar_of` is total.
 ghost use mathlib.Core.Path.{_≡_};
-ghost use mathlib.Core.Bool.{true};
 ghost use Prim.Native.Nat.{_≤_, _<_};
 ghost use lib.ListN.{length};
 ghost use Rattle.word_table.specs.Table.{lookup};

@@ -45,7 +45,7 @@ use Rattle.units_text.specs.declared.Units.{Units}
 use Rattle.written_instant.specs.Instants.{localFields, isZone, ahead, lessZone, writtenInstant}
 use Rattle.named_text.specs.declared.TextCalendar.{TextCalendar}
 use Rattle.named_text.specs.Texts.{textCalendar, inCalendar, readText}
-use Rattle.cases.specs.Cases.{Answer, textAnswer, readingAnswer, axisAnswer, Case, answerOf}
+use Rattle.cases.specs.Cases.{textAnswer, readingAnswer, axisAnswer, Case, answerOf}
 use Rattle.cases.proofs.Known.{Known, itself, applied, through, tested, chosen}
 use Rattle.cases.proofs.Days.{dateOfKnown, inYearsKnown, dateAnswerKnown, dayAnswerKnown}
 

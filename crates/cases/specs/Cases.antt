@@ -14,7 +14,6 @@ use Rattle.axis.specs.Axis.{readOffset}
 use Rattle.axis_types.specs.declared.Offset.{Offset}
 use Rattle.axis_text.specs.Units.{readUnits}
 use Rattle.axis_text.specs.declared.AxisAnswer.{AxisAnswer}
-use Rattle.axis_types.specs.declared.Axis.{Axis}
 use Rattle.iso_text.specs.Iso.{textOf}
 use Rattle.grammar.specs.Rules.{bytes}
 

@@ -4,7 +4,7 @@
 ghost use mathlib.Core.Path.{_≡_};
 ghost use Prim.Native.Nat.{_-_, _*_, _^_, _≤_, _<_};
 ghost use mathlib.Core.Bool.{true};
-ghost use lib.ListN.{length, drop};
+ghost use lib.ListN.{drop};
 ghost use Rattle.grammar.specs.Grammar.{every, _or_, _▸_};
 ghost use Rattle.grammar.specs.Reader.{scan, read, given, paired};
 ghost use Rattle.grammar.specs.Rules.{span, number};

@@ -1,5 +1,5 @@
 -- The size of a double as its two fields give it, significand * 2 ^ weight in units of 2 ^ -1074: its bounds, and when it is zero.
-use mathlib.Core.Path.{_≡_, refl}
+use mathlib.Core.Path.{_≡_}
 use Prim.Native.Nat.{ℕ, zero, suc, _+_, _*_, _^_, _≤_, _<_}
 use native.Mathlib.Nat.{le-refl, lt-of-lt-of-le, mul-le-mul}
 use native.Mathlib.Omega.{arith}

@@ -8,7 +8,6 @@ ghost use lib.Dec.{T};
 ghost use lib.Ieee.{isNan};
 ghost use lib.Signed.{mag};
 ghost use Rattle.rounding.specs.Rounding.{RoundedTo};
-ghost use Rattle.signed.specs.Sign.{withSign};
 ghost use Rattle.double.specs.Displacement.{IsScale, IsSmall, DisplacementOf, DisplacementAnswerOf};
 ghost use Rattle.double.specs.Fields.{patternOf, fieldSize, PatternDisplacement};
 use rounding::Rounded;

@@ -1,7 +1,7 @@
 -- Days and times of day under sums and under the order of instants.
 use mathlib.Core.Path.{_≡_, refl, sym, ap, _∙_}
 use mathlib.Core.Bool.{true, false, not, false≢true}
-use Prim.Native.Nat.{suc, _+_, _-_, _*_, _/_, _≤_}
+use Prim.Native.Nat.{_+_, _-_, _*_, _/_, _≤_}
 use native.Mathlib.Omega.{arith}
 use lib.IntN.{ℤ, pos, negsuc, _+ℤ_, _*ℤ_, pos-ne-negsuc, natAbs}
 use lib.Signed.{leZ}

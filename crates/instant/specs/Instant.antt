@@ -1,6 +1,6 @@
 -- Instants and their fields: document 01, "Instants and axes". An instant is a count of microseconds from 1970-01-01T00:00:00.
 use mathlib.Core.Bool.{Bool, _&&_, cond}
-use Prim.Native.Nat.{ℕ, suc, _+_, _-_, _*_, _/_, _%_}
+use Prim.Native.Nat.{ℕ, _+_, _-_, _*_, _/_, _%_}
 use lib.Dec.{ltb}
 use lib.IntN.{ℤ, pos, negsuc, _+ℤ_, _*ℤ_}
 use Rattle.refusal.specs.declared.Refusal.the-variants.{NoSuchDate}

@@ -8,7 +8,7 @@ use mathlib.Core.List.{List, [], _∷_, _++_}
 use mathlib.Core.Option.{some}
 use lib.ListN.{length, length-append}
 use borrow.Author.Tests.{le-leb}
-use Rattle.grammar.specs.Grammar.{inside, within, every, starts, Derives}
+use Rattle.grammar.specs.Grammar.{inside, within, every, Derives}
 use Rattle.grammar.specs.Rules.{digit, decimal, number}
 use Rattle.grammar.proofs.Classes.{every-append, starts-every}
 use Rattle.date_text.specs.DateRule.{fraction}

@@ -2,8 +2,7 @@
 // lent room. proofs/Back.antt shows that the date rule reads such a text back as the date that was written.
 ghost use mathlib.Core.Path.{_≡_};
 ghost use mathlib.Core.List.{_∷_};
-ghost use Prim.Native.Nat.{_≤_};
-ghost use Rattle.iso_form.specs.Form.{digitAt, body, isoText, lengthAnswer, over};
+ghost use Rattle.iso_form.specs.Form.{body, isoText, lengthAnswer, over};
 ghost use Rattle.iso_form.specs.Closed.{lead};
 use date_text::WrittenDate;
 use refusal::Refusal;

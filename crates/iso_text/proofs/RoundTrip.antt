@@ -1,9 +1,8 @@
 -- The round trip: reading the text of an instant gives the instant, in every calendar and for every instant in the years -9999 to 9999.
 -- So no two instants of one calendar share a text.
-use Prim.Native.Nat.{ℕ, suc, _-_, _≤_}
+use Prim.Native.Nat.{ℕ, _-_, _≤_}
 use native.Mathlib.Omega.{arith}
 use mathlib.Core.Path.{_≡_, refl, sym, ap, subst, _∙_}
-use mathlib.Core.Bool.{cond}
 use mathlib.Core.List.{List}
 use mathlib.Core.Option.{some}
 use lib.IntN.{ℤ, pos, negsuc, natAbs, +ℤ-idr}

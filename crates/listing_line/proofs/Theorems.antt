@@ -24,7 +24,6 @@ use Rattle.instant.specs.Instant.{inRange, fieldsAnswer}
 use Rattle.instant.specs.declared.FieldsAnswer.{FieldsAnswer}
 use Rattle.instant.proofs.Theorems.{fields-in}
 use Rattle.axis_types.specs.declared.Reading.{Reading}
-use Rattle.axis_types.specs.declared.Axis.{Axis}
 use Rattle.axis.specs.Axis.{readOffset}
 use Rattle.axis_types.specs.declared.Offset.{Offset}
 use Rattle.axis.proofs.Demands.{read-inside}

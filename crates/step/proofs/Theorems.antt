@@ -1,52 +1,43 @@
 -- What is proved of steps, in one place. `part` is the month or the year, `c` any of the six calendars; z, w and n are any integers.
-use mathlib.Core.Path.{_≡_, refl, sym, ap, _∙_}
+use mathlib.Core.Path.{_≡_, sym, ap, _∙_}
 use mathlib.Core.Bool.{true}
 use Prim.Native.Nat.{ℕ, _*_, _+_, _≤_}
-use native.Mathlib.Omega.{arith}
 use lib.IntN.{ℤ, pos, subℕ}
 use lib.Signed.{ltZ, mag}
 use Rattle.signed.proofs.Differences.{common}
-use Rattle.calendar.specs.Calendar.{hasYearZero, exists, inYears, times}
+use Rattle.calendar.specs.Calendar.{hasYearZero, exists, inYears}
 use Rattle.calendar.specs.Order.{earlier}
 use Rattle.calendar.specs.declared.Calendar.{Calendar}
 use Rattle.calendar.specs.declared.Date.{Date}
-use Rattle.calendar.proofs.Existing.{date-eq, valid-of, valid-year}
+use Rattle.calendar.proofs.Existing.{valid-of, valid-year}
 use Rattle.calendar.proofs.Theorems.{count-of}
 use Rattle.step.specs.Answers.{stepsBetween}
 use Rattle.step.specs.Closed.{monthAt, monthsOf, HasNumber, YearOf}
-use Rattle.step.specs.Steps.{steps, monthReached, dateAfter}
+use Rattle.step.specs.Steps.{monthReached, dateAfter}
 use Rattle.step.specs.declared.Part.{Part}
 use Rattle.step.specs.declared.StepAnswer.{StepAnswer}
-use Rattle.step.proofs.Answering.{inside, none, found}
+use Rattle.step.proofs.Answering.{inside, found}
 use Rattle.step.proofs.Counts as Counts
-use Rattle.step.proofs.Days.{Kept, here}
+use Rattle.step.proofs.Days.{Kept}
 use Rattle.step.proofs.Existing as Existing
 use Rattle.step.proofs.Order.{dates-rise}
 use Rattle.step.proofs.Searching.{found-is, found-near}
-use Rattle.step.proofs.Steps.{in-order, one-number}
+use Rattle.step.proofs.Steps.{in-order}
 
 module _ (part : Part) (c : Calendar) where
   -- steps as arithmetic, on months counted from January of year -10000: n - b steps lead from month i to month j = i + (n - b) * monthsOf part
   pub months-at : (n b i j : ℕ) → j + b * monthsOf part ≡ i + n * monthsOf part → monthReached part c (subℕ n b) (monthAt c i) ≡ monthAt c j
   months-at = Counts.months-at c part
 
-  -- ---- from every date, by all numbers: more steps lead to a later date, so no two numbers lead to the same date
+  -- ---- from every date, by all numbers: more steps lead to a later date
 
   module _ (x : Date) where
     pub steps-order : (z w : ℤ) → earlier (dateAfter part c z x) (dateAfter part c w x) ≡ ltZ z w
     steps-order = in-order (λ (z : ℤ). dateAfter part c z x) (dates-rise c part x)
 
-    pub steps-differ : (z w : ℤ) → dateAfter part c z x ≡ dateAfter part c w x → z ≡ w
-    steps-differ = one-number (λ (z : ℤ). dateAfter part c z x) (dates-rise c part x)
-
   -- ---- from a date that exists
 
   module _ (x : Date) (there : exists c x ≡ true) where
-    -- no steps lead nowhere else
-    pub steps-zero : dateAfter part c (pos 0) x ≡ x
-    unfolding dateAfter steps times
-    steps-zero = date-eq refl refl (here c (x .year) (x .month) (x .day) there)
-
     -- the date that is reached exists
     pub steps-exist : (z : ℤ) → exists c (dateAfter part c z x) ≡ true
     steps-exist = Existing.dates-there c part x there
@@ -67,11 +58,7 @@ module _ (part : Part) (c : Calendar) where
     unfolding stepsBetween
     between-near n e = found-near (λ (z : ℤ). dateAfter part c z x) d n e
 
-    -- `Nothing` where no integer leads to d
-    pub nothing-between : ((n : ℤ) → dateAfter part c n x ≡ d → ⊥) → stepsBetween part c x d ≡ StepAnswer.Nothing
-    nothing-between f = sym (none part c x d f)
-
-    -- both dates exist in the years -9999 to 9999: the n that leads to d is answered, and `Nothing` only where there is none
+    -- both dates exist in the years -9999 to 9999: the n that leads to d is answered
     module _ (p : HasNumber c x) (q : HasNumber c d) where
       pub is-between : (n : ℤ) → dateAfter part c n x ≡ d → stepsBetween part c x d ≡ StepAnswer.Is n
       is-between n e =
@@ -81,6 +68,3 @@ module _ (part : Part) (c : Calendar) where
           let e′ : dateAfter part c (subℕ (k .left) (k .least)) x ≡ d = ap (λ (z : ℤ). dateAfter part c z x) (k .is-left) ∙ e in
           let l = inside c x (y .count) g part (k .left) (k .least) (ap (λ (u : Date). inYears (u .year)) e′ ∙ q .inside) .few in
           sym (found part c x d (k .left) (k .least) (l .0) (l .1) e′) ∙ ap StepAnswer.Is (k .is-left)
-
-      pub between-nothing : stepsBetween part c x d ≡ StepAnswer.Nothing → (n : ℤ) → dateAfter part c n x ≡ d → ⊥
-      between-nothing h n e = let f = is-between n e in let z : _≡_ {A = ℕ} 0 1 = (cc) in omega arith

@@ -8,7 +8,6 @@ use Rattle.calendar.specs.declared.Date.{Date}
 use Rattle.calendar.specs.declared.DateAnswer.{DateAnswer}
 use Rattle.calendar.specs.declared.DayAnswer.{DayAnswer}
 use Rattle.instant.specs.Instant.{fieldsAnswer}
-use Rattle.instant.specs.declared.Fields.{Fields}
 use Rattle.instant.specs.declared.FieldsAnswer.{FieldsAnswer}
 use Rattle.codes.specs.declared.CodedCalendar.{CodedCalendar}
 use Rattle.uppinalo.specs.declared.days.UppinaloDateAnswer.{UppinaloDateAnswer}

@@ -11,7 +11,6 @@ use Rattle.axis.specs.declared.Step.{Step}
 use borrow.Author.Needs.{needs}
 use Rattle.axis.proofs.read_whole_on.Statement.{statement}
 use Rattle.axis.proofs.read_whole_on.Tie as tie
-use Rattle.fixed_axis.proofs.read_whole.Reads as read-whole-reads′
 
 -- what the axis's step says, and the reference and the offset as they cross into the call
 module _ (s : tie.After-step-on) where

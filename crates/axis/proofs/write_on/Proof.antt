@@ -11,7 +11,6 @@ use Rattle.axis.specs.declared.Step.{Step}
 use borrow.Author.Needs.{needs}
 use Rattle.axis.proofs.write_on.Statement.{statement}
 use Rattle.axis.proofs.write_on.Tie as tie
-use Rattle.fixed_axis.proofs.write_instant.Reads as write-instant-reads′
 
 -- what the axis's step says, and the reference and the instant as they cross into the call
 module _ (s : tie.After-step-on) where

@@ -7,7 +7,6 @@ use native.Mathlib.Omega.{arith}
 use lib.Dec.{lit≤}
 use lib.Pow.{pow-add, pow-mono, shl-lt}
 use lib.Count.{leadingZeros, leading-top}
-use Rattle.double.specs.declared.Scale.{Scale}
 use Rattle.double.specs.Displacement.{IsScale}
 use Rattle.double.proofs.scale_of.Statement.{statement}
 use Rattle.double.proofs.scale_of.Tie as tie

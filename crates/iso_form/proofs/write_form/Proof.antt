@@ -6,7 +6,6 @@ use mathlib.Core.Path.{_≡_, refl, sym, ap, _∙_}
 use lib.ListN.{length}
 use Rattle.iso_form.specs.declared.LengthAnswer.{LengthAnswer}
 use Rattle.iso_form.specs.Form.{isoText}
-use Rattle.iso_form.specs.Closed.{lead}
 use Rattle.iso_form.proofs.Laws.{lead-small, iso-length, short-answer, short-over, whole-answer, copied}
 use Rattle.iso_form.proofs.write_form.Statement.{statement}
 use Rattle.iso_form.proofs.write_form.Tie as tie
