@@ -10,7 +10,7 @@ use borrow.Author.Tests.{le-leb, leb-true, leb-false, lt-ltb, le-ltb, eqb-true, 
 use Rattle.signed.proofs.Tests.{and-parts, to-false, test-is}
 use Rattle.calendar.specs.Plain.{Plain, monthDays, date, hasDay}
 use Rattle.calendar.specs.Calendar.{CalendarRow, earlyPart, latePart, existsBy, dateBy, exists, dateOf, hasYearZero, rowOf}
-use Rattle.calendar.specs.Closed.{kindAt, count, Proper, yearAt, label, hasDayAt, dayPlace, beforePlace, countedRow, counts, mixed, cutoverDay, lateFrom, lag, isEarly, isDropped, ruleAt, lagAt, rowEpoch, epochDay}
+use Rattle.calendar.specs.Closed.{kindAt, count, yearAt, label, dayPlace, beforePlace, countedRow, counts, mixed, cutoverDay, lateFrom, lag, isEarly, isDropped, ruleAt, lagAt, rowEpoch, epochDay}
 use Rattle.calendar.specs.Order.{sameYear, earlier}
 use Rattle.calendar.specs.declared.Calendar.{Calendar}
 use Rattle.calendar.specs.declared.Date.{Date}
@@ -19,12 +19,16 @@ use Rattle.calendar.specs.declared.row.CountedRow.{CountedRow}
 use Rattle.calendar.specs.declared.rule.Rule.{Rule}
 use Rattle.calendar.proofs.Years.{year-most, kind-low}
 use Rattle.calendar.proofs.Tables.{month-days, month-room}
+use Rattle.calendar.proofs.Places.{Proper}
 use Rattle.calendar.proofs.Ordered.{date-eq, Before, earlier-of, clash, year-eq, same-year, not-after}
 use Rattle.calendar.proofs.Labels.{kinds, there-at, name-lt}
 use Rattle.calendar.proofs.Days.{Cutover, dayDate, place-date, meeting, first-count, date-early, row-dates, dated-late, early-number, late-number}
 use Rattle.calendar.proofs.Rows.{cutover}
 
 -- ---- a date of a rule, by the count of its year
+
+unfoldable pub hasDayAt : Rule → ℕ → ℕ → ℕ → Bool
+hasDayAt r y m d = (leb 1 m && leb m 12) && (leb 1 d && leb d (monthDays (kindAt r y) (m - 1)))
 
 pub record Parts (r : Rule) (y m d : ℕ) : Type 0 where
   pub month-low : 1 ≤ m

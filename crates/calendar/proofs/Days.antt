@@ -13,13 +13,13 @@ use Rattle.signed.proofs.Tests.{and-parts}
 use Rattle.signed.proofs.Differences.{same-diff}
 use Rattle.calendar.specs.Plain.{Plain, plain, monthDays, lastDay, date, dayAfter, hasDay}
 use Rattle.calendar.specs.Calendar.{CalendarRow, earlyPart, latePart, nextBy, prevBy, existsBy, dateBy, epoch}
-use Rattle.calendar.specs.Closed.{kindAt, yearStart, placeAt, count, Proper, placeOf, yearAt, label, dayPlace, countedRow, mixed, cutoverDay, lateFrom, lag, rowEpoch}
+use Rattle.calendar.specs.Closed.{kindAt, yearStart, placeAt, count, placeOf, yearAt, label, dayPlace, countedRow, mixed, cutoverDay, lateFrom, lag, rowEpoch}
 use Rattle.calendar.specs.declared.Date.{Date}
 use Rattle.calendar.specs.declared.place.Place.{Place}
 use Rattle.calendar.specs.declared.rule.Rule.{Rule}
 use Rattle.calendar.proofs.Years.{kind-low, year-least, year-most}
 use Rattle.calendar.proofs.Tables.{month-days}
-use Rattle.calendar.proofs.Places.{at, at-step, at-proper, at-is, place-split, month-first, stepPlace, place-eq, within-year, grows-to, year-grows}
+use Rattle.calendar.proofs.Places.{at, at-step, at-proper, at-is, place-split, month-first, stepPlace, place-eq, within-year, grows-to, year-grows, Proper}
 use Rattle.calendar.proofs.Ordered.{date-eq, Before}
 use Rattle.calendar.proofs.Labels.{kinds, after-at, there-at}
 use Rattle.calendar.proofs.Plain.{Follows, day, month, year, exists-of, next-is, Chain, chain}

@@ -9,7 +9,7 @@ use native.Mathlib.Decide.{decLe}
 use lib.Dec.{ltb, eqb}
 use borrow.Author.Tests.{ltb-true, ltb-false}
 use Rattle.calendar.specs.Plain.{monthDays}
-use Rattle.calendar.specs.Closed.{kindAt, leap, monthStart, yearStart, placeAt, count, Proper, Split, monthFromMarch, dayInMonth, fromMarch, ofThirty, placeOf, packedPlace, unpackedPlace}
+use Rattle.calendar.specs.Closed.{kindAt, leap, monthStart, yearStart, placeAt, count, monthFromMarch, dayInMonth, fromMarch, ofThirty, placeOf, unpackedPlace}
 use Rattle.calendar.specs.declared.rule.Rule.{Rule}
 use Rattle.calendar.specs.declared.rule.YearDay.{YearDay}
 use Rattle.calendar.specs.declared.place.Place.{Place}
@@ -55,6 +55,16 @@ in-year : (k m i : ℕ) → m < 12 → i < monthDays k m → monthStart k m + i 
 in-year k m i h g = omega (arith, grows-to (monthStart k) (month-grows k) (suc m) 12 h, month-end k m)
 
 -- ---- a place and its number of days: two places with the same number are one
+
+-- a place that is a day
+pub record Proper (r : Rule) (p : Place) : Type 0 where
+  pub month : p .m < 12
+  pub day : p .i < monthDays (kindAt r (p .y)) (p .m)
+
+-- p is the place of day n
+pub record Split (r : Rule) (n : ℕ) (p : Place) : Type 0 where
+  pub proper : Proper r p
+  pub counted : count r p ≡ n
 
 pub place-eq : {p q : Place} → p .y ≡ q .y → p .m ≡ q .m → p .i ≡ q .i → p ≡ q
 place-eq a b c = λ i. record { y = a i; m = b i; i = c i }
@@ -177,6 +187,9 @@ place-small r n h =
     let s = place-split r n in
     (omega (arith, s .counted, year-least r (p .y)), (s .proper .month, omega (arith, s .proper .day, month-days (kindAt r (p .y)) (p .m) (kind-low r (p .y)) (s .proper .month))))
 
--- a place is read back from its number
+-- a place as one number, and read back from it
+abbrev pub packedPlace : Place → ℕ
+packedPlace p = 512 * p .y + 32 * p .m + p .i
+
 pub unpacked-place : (p : Place) → p .m < 12 → p .i < 31 → unpackedPlace (packedPlace p) ≡ p
 unpacked-place p h g = place-eq (omega arith) (omega arith) (omega arith)

@@ -1,6 +1,6 @@
 -- Months by computed tests: each rule about a month or a day of the year is one test over all of them, and a law that hands out its rows.
 use mathlib.Core.Path.{_≡_, refl, subst}
-use mathlib.Core.Bool.{Bool, true, _&&_}
+use mathlib.Core.Bool.{Bool, true, _&&_, cond}
 use Prim.Native.Nat.{ℕ, zero, suc, _+_, _-_, _*_, _/_, _%_, _<_, _≤_}
 use native.Mathlib.Omega.{arith}
 use native.Mathlib.Decide.{decLe}
@@ -8,7 +8,7 @@ use lib.Dec.{ltb, eqb}
 use borrow.Author.Tests.{ltb-true, eqb-true}
 use Rattle.signed.proofs.Tests.{and-parts}
 use Rattle.calendar.specs.Plain.{monthDays}
-use Rattle.calendar.specs.Closed.{monthStart, monthStartOf, monthFromMarch, dayInMonth}
+use Rattle.calendar.specs.Closed.{monthStart, monthFromMarch, dayInMonth}
 
 -- a test over the numbers below n
 all : (ℕ → Bool) → ℕ → Bool
@@ -45,6 +45,9 @@ month-days k m h g =
     (ltb-true 27 (monthDays k m) (w .0), ltb-true (monthDays k m) 32 (w .1))
 
 -- ---- the days before a month, without a table
+
+abbrev pub monthStartOf : ℕ → ℕ → ℕ
+monthStartOf k m = cond (eqb k 2) (30 * m) ((367 * m + 5) / 12 - cond (ltb m 2) 0 (2 - k))
 
 started : ℕ → ℕ → Bool
 started k m = eqb (monthStartOf k m) (monthStart k m)

@@ -15,10 +15,11 @@ use Rattle.calendar.specs.Plain.{lacksYear}
 use Rattle.calendar.specs.Calendar.{hasYearZero, next, prev, dateOf, exists, inYears, date, rowOf, nextBy, prevBy, existsBy, dateBy, epoch}
 use Rattle.calendar.specs.Order.{earlier}
 use Rattle.calendar.specs.Answers.{dayNumber, dayAnswer}
-use Rattle.calendar.specs.Closed.{yearAt, count, placeOf, label, dayPlace, counts, lateFrom, lag, ruleAt, lagAt, dayByRule, placeByRule, epochDay}
+use Rattle.calendar.specs.Closed.{yearAt, count, placeOf, label, dayPlace, counts, lateFrom, lag, ruleAt, lagAt, dayByRule, epochDay, ruleOfDay}
 use Rattle.calendar.specs.declared.Calendar.{Calendar}
 use Rattle.calendar.specs.declared.Date.{Date}
 use Rattle.calendar.specs.declared.DayAnswer.{DayAnswer}
+use Rattle.calendar.specs.declared.place.Place.{Place}
 use Rattle.calendar.proofs.Existing.{date-eq, valid-of, valid-year}
 use Rattle.calendar.proofs.Labels.{year-low, year-high}
 use Rattle.calendar.proofs.Plain.{Chain}
@@ -86,8 +87,11 @@ module _ (c : Calendar) where
   pub range : (z : ℤ) → inYears (dateOf c z .year) ≡ (leZ (lowDay c) z && leZ z (highDay c))
   range = Range.range c
 
-  -- the date of day n from the first place of the late rule, by the closed forms
-  pub date-by-place : (n : ℕ) → dateOf c (subℕ n (epochDay c)) ≡ label (hasYearZero c) (placeByRule (counts c) n)
+  -- the place of day n from the first place of the late rule, by the closed forms, and its date
+  abbrev pub placeByRule : ℕ → Place
+  placeByRule n = placeOf (ruleOfDay (counts c) n) (dayByRule (counts c) n)
+
+  pub date-by-place : (n : ℕ) → dateOf c (subℕ n (epochDay c)) ≡ label (hasYearZero c) (placeByRule n)
   unfolding dateOf
   date-by-place n = go (ltb n (lateFrom (counts c))) refl
     where

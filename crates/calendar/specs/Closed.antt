@@ -59,10 +59,6 @@ unfoldable pub monthStart : ℕ → ℕ → ℕ
 monthStart k zero = 0
 monthStart k (suc m) = monthStart k m + monthDays k m
 
--- the same for m below 12, without a table
-abbrev pub monthStartOf : ℕ → ℕ → ℕ
-monthStartOf k m = cond (eqb k 2) (30 * m) ((367 * m + 5) / 12 - cond (ltb m 2) 0 (2 - k))
-
 -- ---- places
 
 abbrev pub placeAt : ℕ → ℕ → ℕ → Place
@@ -71,16 +67,6 @@ placeAt y m i = record { y = y; m = m; i = i }
 -- the days before a place
 unfoldable pub count : Rule → Place → ℕ
 count r p = yearStart r (p .y) + monthStart (kindAt r (p .y)) (p .m) + p .i
-
--- a place that is a day
-pub record Proper (r : Rule) (p : Place) : Type 0 where
-  pub month : p .m < 12
-  pub day : p .i < monthDays (kindAt r (p .y)) (p .m)
-
--- p is the place of day n
-pub record Split (r : Rule) (n : ℕ) (p : Place) : Type 0 where
-  pub proper : Proper r p
-  pub counted : count r p ≡ n
 
 -- the month of day d of a year that begins with March, from March on, and its day of that month
 abbrev pub monthFromMarch : ℕ → ℕ
@@ -109,10 +95,7 @@ placeOf Rule.Common n = fromMarch (yearDay Rule.Common (n + 306))
 placeOf Rule.Leap n = fromMarch (yearDay Rule.Leap (n + 306))
 placeOf Rule.Thirty n = ofThirty (yearDay Rule.Thirty n)
 
--- a place as one number, and back
-abbrev pub packedPlace : Place → ℕ
-packedPlace p = 512 * p .y + 32 * p .m + p .i
-
+-- the place that a number stands for
 abbrev pub unpackedPlace : ℕ → Place
 unpackedPlace w = placeAt (w / 512) (w / 32 % 16) (w % 32)
 
@@ -131,9 +114,6 @@ Counted z y (YearCount.Is n) = yearAt z n ≡ y
 Counted z y YearCount.Missing = (z ≡ false) × (y ≡ pos 0)
 
 -- the tests of a date of year y by its month and day, and its place
-
-unfoldable pub hasDayAt : Rule → ℕ → ℕ → ℕ → Bool
-hasDayAt r y m d = (leb 1 m && leb m 12) && (leb 1 d && leb d (monthDays (kindAt r y) (m - 1)))
 
 abbrev pub dayPlace : ℕ → ℕ → ℕ → Place
 dayPlace y m d = placeAt y (m - 1) (d - 1)
@@ -193,10 +173,6 @@ ruleOfDay k n = cond (ltb n (lateFrom k)) (k .early) (k .late)
 abbrev pub dayByRule : CountedRow → ℕ → ℕ
 dayByRule k n = cond (ltb n (lateFrom k)) (n + lag k) n
 
--- the place of day n
-abbrev pub placeByRule : CountedRow → ℕ → Place
-placeByRule k n = placeOf (ruleOfDay k n) (dayByRule k n)
-
 -- ---- a calendar's numbers, in days from place 0 0 0 of its late rule
 
 -- 1970-01-01
@@ -223,8 +199,7 @@ firstDay c = rowStart (counts c)
 abbrev pub endDay : Calendar → ℕ
 endDay c = rowEnd (counts c)
 
--- ---- the place of a calendar's day, as one number
-
+-- the number w stands for the place of day z
 pub record PlaceOfDay (c : Calendar) (z : ℤ) (w : ℕ) : Type 0 where
   pub small : w < 2 ^ 40
   pub dated : label (hasYearZero c) (unpackedPlace w) ≡ dateOf c z

@@ -12,7 +12,7 @@ use Rattle.calendar.specs.Plain.{hasDay, kind, monthDays}
 use Rattle.calendar.specs.Order.{earlier}
 use Rattle.calendar.specs.Calendar.{date, dateOf, exists, existsBy, hasYearZero, inYears}
 use Rattle.calendar.specs.Answers.{dateAnswer, dayAnswer, dayNumber}
-use Rattle.calendar.specs.Closed.{beforePlace, count, counts, cutoverDay, dayPlace, epochDay, kindAt, label, lag, lagAt, monthStart, placeByRule, rowEnd, rowEpoch, rowStart, ruleAt, yearAt, yearStart}
+use Rattle.calendar.specs.Closed.{beforePlace, count, counts, cutoverDay, dayPlace, epochDay, kindAt, label, lag, lagAt, monthStart, rowEnd, rowEpoch, rowStart, ruleAt, yearAt, yearStart}
 use Rattle.calendar.specs.declared.Calendar.{Calendar}
 use Rattle.calendar.specs.declared.Date.{Date}
 use Rattle.calendar.specs.declared.DateAnswer.{DateAnswer}
@@ -22,7 +22,7 @@ use Rattle.calendar.proofs.Labels.{by-year}
 use Rattle.calendar.proofs.Range.{highDay, inside-of, lowDay}
 use Rattle.calendar.proofs.Counting.{numbered}
 use Rattle.calendar.proofs.Numbering.{number-is}
-use Rattle.calendar.proofs.Theorems.{count-of, date-by-place, range}
+use Rattle.calendar.proofs.Theorems.{count-of, placeByRule, date-by-place, range}
 use Rattle.cases.proofs.Known.{Known, itself, equal, applied, chosen}
 
 -- ---- the date of a day number
@@ -31,7 +31,7 @@ module _ (c : Calendar) where
   -- the date of day n, counted from place 0 0 0 of the late rule
   unfoldable pub countedKnown : (n : ℕ) → Known (dateOf c (subℕ n (epochDay c)))
   unfolding lag cutoverDay count kindAt yearStart monthStart monthDays
-  countedKnown n = record { value = label (hasYearZero c) (placeByRule (counts c) n); is = date-by-place c n }
+  countedKnown n = record { value = label (hasYearZero c) (placeByRule c n); is = date-by-place c n }
 
   -- the date of a day number of the range
   unfoldable pub dateOfKnown : (z : ℤ) → inYears (dateOf c z .year) ≡ true → Known (dateOf c z)

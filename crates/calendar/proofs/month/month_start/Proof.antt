@@ -5,8 +5,7 @@ use Prim.Native.Nat.{ℕ, _+_, _-_, _*_, _/_, _≤_}
 use native.Mathlib.Omega.{arith}
 use lib.Dec.{ltb}
 use borrow.Author.Tests.{eq-eqb, ne-eqb, ltb-false}
-use Rattle.calendar.specs.Closed.{monthStartOf}
-use Rattle.calendar.proofs.Tables.{month-start}
+use Rattle.calendar.proofs.Tables.{month-start, monthStartOf}
 use borrow.Author.Needs.{needs}
 use Rattle.calendar.proofs.month.month_start.Statement.{statement}
 use Rattle.calendar.proofs.month.month_start.Tie as tie

@@ -7,10 +7,10 @@ use mir.Syntax.{w64}
 use mir.ValLaws.{toZ-ofZ}
 use Rattle.signed.proofs.Differences.{same-diff}
 use Rattle.calendar.specs.Calendar.{dateOf}
-use Rattle.calendar.specs.Closed.{count, hasDayAt, dayPlace, counts, ruleAt, epochDay}
+use Rattle.calendar.specs.Closed.{count, dayPlace, counts, ruleAt, epochDay}
 use Rattle.calendar.specs.declared.rule.Rule.{Rule}
 use Rattle.calendar.proofs.Range.{small}
-use Rattle.calendar.proofs.Counting.{Parts, parts-of, count-small, has-by, lag-at-small, numbered}
+use Rattle.calendar.proofs.Counting.{Parts, parts-of, count-small, has-by, lag-at-small, numbered, hasDayAt}
 use borrow.Author.Needs.{needs}
 use Rattle.calendar.proofs.ordinal.day_in_year.Statement.{statement}
 use Rattle.calendar.proofs.ordinal.day_in_year.Tie as tie

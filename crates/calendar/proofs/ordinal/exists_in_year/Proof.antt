@@ -7,10 +7,10 @@ use lib.Dec.{leb}
 use Rattle.signed.proofs.Tests.{right-out}
 use Rattle.calendar.specs.Calendar.{exists, date, hasYearZero}
 use Rattle.calendar.specs.Plain.{monthDays}
-use Rattle.calendar.specs.Closed.{yearAt, hasDayAt, counts, isDropped, ruleAt, kindAt}
+use Rattle.calendar.specs.Closed.{yearAt, counts, isDropped, ruleAt, kindAt}
 use Rattle.calendar.specs.declared.rule.Rule.{Rule}
 use Rattle.calendar.proofs.Years.{kind-low}
-use Rattle.calendar.proofs.Counting.{Parts, not-at, day-test, exists-by}
+use Rattle.calendar.proofs.Counting.{Parts, not-at, day-test, exists-by, hasDayAt}
 use borrow.Author.Needs.{needs}
 use Rattle.calendar.proofs.ordinal.exists_in_year.Statement.{statement}
 use Rattle.calendar.proofs.ordinal.exists_in_year.Tie as tie
