@@ -1,4 +1,6 @@
--- The answers of the C boundary about days and instants: the number, and zeros beside a refusal.
+-- The answers of the C boundary about days and instants: the number, and zeros beside a refusal. A definition with the name of a call is
+-- what that call promises.
+use Prim.Native.Nat.{ℕ}
 use lib.IntN.{ℤ, pos}
 use Rattle.refusal.specs.Number.{numberOf}
 use Rattle.refusal.specs.declared.Refusal.the-variants.{UnknownCalendar}
@@ -9,6 +11,7 @@ use Rattle.calendar.specs.declared.DateAnswer.{DateAnswer}
 use Rattle.calendar.specs.declared.DayAnswer.{DayAnswer}
 use Rattle.instant.specs.Instant.{fieldsAnswer}
 use Rattle.instant.specs.declared.FieldsAnswer.{FieldsAnswer}
+use Rattle.codes.specs.Codes.{codedCalendar}
 use Rattle.codes.specs.declared.CodedCalendar.{CodedCalendar}
 use Rattle.uppinalo.specs.declared.days.UppinaloDateAnswer.{UppinaloDateAnswer}
 use Rattle.uppinalo.specs.declared.days.UppinaloDayAnswer.{UppinaloDayAnswer}
@@ -27,6 +30,9 @@ abbrev pub dateByCode : CodedCalendar → ℤ → UppinaloDateAnswer
 dateByCode (CodedCalendar.Is c) n = ofDate (dateAnswer c n)
 dateByCode CodedCalendar.Unknown n = noDate UnknownCalendar
 
+abbrev pub uppinaloDateOfDay : ℕ → ℤ → UppinaloDateAnswer
+uppinaloDateOfDay calendar n = dateByCode (codedCalendar calendar) n
+
 -- ---- a day number
 
 abbrev pub noDay : Refusal → UppinaloDayAnswer
@@ -40,6 +46,9 @@ abbrev pub dayByCode : CodedCalendar → Date → UppinaloDayAnswer
 dayByCode (CodedCalendar.Is c) x = ofDay (dayAnswer c x)
 dayByCode CodedCalendar.Unknown x = noDay UnknownCalendar
 
+abbrev pub uppinaloDayOfDate : ℕ → Date → UppinaloDayAnswer
+uppinaloDayOfDate calendar x = dayByCode (codedCalendar calendar) x
+
 -- ---- fields
 
 abbrev pub noFields : Refusal → UppinaloFieldsAnswer
@@ -52,3 +61,6 @@ ofFields (FieldsAnswer.Refused r) = noFields r
 abbrev pub fieldsByCode : CodedCalendar → ℤ → UppinaloFieldsAnswer
 fieldsByCode (CodedCalendar.Is c) t = ofFields (fieldsAnswer c t)
 fieldsByCode CodedCalendar.Unknown t = noFields UnknownCalendar
+
+abbrev pub uppinaloFieldsOf : ℕ → ℤ → UppinaloFieldsAnswer
+uppinaloFieldsOf calendar t = fieldsByCode (codedCalendar calendar) t

@@ -1,11 +1,17 @@
--- The answers of the C boundary about one offset: the number, and zeros beside a refusal. Codes that name no axis are refused first.
+-- The answers of the C boundary about one offset: the number, and zeros beside a refusal. Codes that name no axis are refused first. A
+-- definition with the name of a call is what that call promises.
 use mathlib.Core.Bool.{false}
-use lib.IntN.{pos}
+use lib.IntN.{ℤ, pos}
+use lib.Ieee.{Float}
 use Rattle.refusal.specs.Number.{numberOf}
 use Rattle.refusal.specs.declared.Refusal.{Refusal}
+use Rattle.instant.specs.declared.Fields.{Fields}
 use Rattle.axis_types.specs.declared.Reading.{Reading}
 use Rattle.axis_types.specs.declared.OffsetAnswer.{OffsetAnswer}
 use Rattle.axis_types.specs.declared.Axis.{Axis}
+use Rattle.axis.specs.Axis.{readWholeOn, readDoubleOn, writeInstantOn, writeFieldsOn}
+use Rattle.codes.specs.Codes.{codedAxis}
+use Rattle.codes.specs.declared.UppinaloAxis.{UppinaloAxis}
 use Rattle.codes.specs.declared.CodedAxis.{CodedAxis}
 use Rattle.uppinalo.specs.declared.texts.UppinaloReading.{UppinaloReading}
 use Rattle.uppinalo.specs.declared.offsets.UppinaloOffsetAnswer.{UppinaloOffsetAnswer}
@@ -23,6 +29,12 @@ abbrev pub readOn : CodedAxis → (Axis → Reading) → UppinaloReading
 readOn (CodedAxis.Is a) read = ofReading (read a)
 readOn (CodedAxis.Refused r) read = noReading r
 
+abbrev pub uppinaloReadWhole : UppinaloAxis → ℤ → UppinaloReading
+uppinaloReadWhole axis n = readOn (codedAxis axis) (λ a. readWholeOn a n)
+
+abbrev pub uppinaloReadDouble : UppinaloAxis → Float → UppinaloReading
+uppinaloReadDouble axis x = readOn (codedAxis axis) (λ a. readDoubleOn a x)
+
 -- ---- writing
 
 abbrev pub noOffset : Refusal → UppinaloOffsetAnswer
@@ -35,3 +47,9 @@ ofOffset (OffsetAnswer.Refused r) = noOffset r
 abbrev pub writeOn : CodedAxis → (Axis → OffsetAnswer) → UppinaloOffsetAnswer
 writeOn (CodedAxis.Is a) write = ofOffset (write a)
 writeOn (CodedAxis.Refused r) write = noOffset r
+
+abbrev pub uppinaloWriteInstant : UppinaloAxis → ℤ → UppinaloOffsetAnswer
+uppinaloWriteInstant axis t = writeOn (codedAxis axis) (λ a. writeInstantOn a t)
+
+abbrev pub uppinaloWriteFields : UppinaloAxis → Fields → UppinaloOffsetAnswer
+uppinaloWriteFields axis f = writeOn (codedAxis axis) (λ a. writeFieldsOn a f)

@@ -1,4 +1,5 @@
--- The answers of the C boundary about texts: the number, and zeros beside a refusal.
+-- The answers of the C boundary about texts: the number, and zeros beside a refusal. A definition with the name of a call is what that call
+-- promises: of its answer, and of the room afterwards.
 use mathlib.Core.Bool.{true, false}
 use mathlib.Core.List.{List}
 use Prim.Native.Nat.{ℕ}
@@ -8,10 +9,11 @@ use Rattle.refusal.specs.declared.Refusal.{Refusal}
 use Rattle.refusal.specs.declared.Refusal.the-variants.{UnknownCalendar}
 use Rattle.instant.specs.declared.InstantAnswer.{InstantAnswer}
 use Rattle.iso_form.specs.declared.LengthAnswer.{LengthAnswer}
-use Rattle.iso_text.specs.Iso.{writeIso, roomIso}
+use Rattle.iso_text.specs.Iso.{readIso, writeIso, roomIso}
 use Rattle.axis_types.specs.Zero.{zeroAxis}
+use Rattle.axis_text.specs.Units.{readUnits}
 use Rattle.axis_text.specs.declared.AxisAnswer.{AxisAnswer}
-use Rattle.codes.specs.Codes.{axisCode}
+use Rattle.codes.specs.Codes.{codedCalendar, axisCode}
 use Rattle.codes.specs.declared.CodedCalendar.{CodedCalendar}
 use Rattle.uppinalo.specs.declared.texts.UppinaloReading.{UppinaloReading}
 use Rattle.uppinalo.specs.declared.texts.UppinaloLengthAnswer.{UppinaloLengthAnswer}
@@ -22,6 +24,9 @@ abbrev pub ofInstant : InstantAnswer → UppinaloReading
 ofInstant (InstantAnswer.Is t) = record { number = 0; instant = t; exact = true }
 ofInstant (InstantAnswer.Refused r) = record { number = numberOf r; instant = pos 0; exact = false }
 
+abbrev pub uppinaloReadIso : List ℕ → List ℕ → UppinaloReading
+uppinaloReadIso calendar text = ofInstant (readIso calendar text)
+
 -- a refusal has the zero axis beside it
 abbrev pub noAxis : Refusal → UppinaloAxisAnswer
 noAxis r = record { number = numberOf r; axis = axisCode zeroAxis }
@@ -29,6 +34,9 @@ noAxis r = record { number = numberOf r; axis = axisCode zeroAxis }
 abbrev pub ofAxis : AxisAnswer → UppinaloAxisAnswer
 ofAxis (AxisAnswer.Is a) = record { number = 0; axis = axisCode a }
 ofAxis (AxisAnswer.Refused r) = noAxis r
+
+abbrev pub uppinaloReadUnits : List ℕ → List ℕ → UppinaloAxisAnswer
+uppinaloReadUnits calendar text = ofAxis (readUnits calendar text)
 
 abbrev pub noLength : Refusal → UppinaloLengthAnswer
 noLength r = record { number = numberOf r; length = 0 }
@@ -45,3 +53,9 @@ lengthByCode CodedCalendar.Unknown t room = noLength UnknownCalendar
 abbrev pub roomByCode : CodedCalendar → ℤ → List ℕ → List ℕ
 roomByCode (CodedCalendar.Is c) t room = roomIso c t room
 roomByCode CodedCalendar.Unknown t room = room
+
+abbrev pub uppinaloWriteIso : ℕ → ℤ → List ℕ → UppinaloLengthAnswer
+uppinaloWriteIso calendar t room = lengthByCode (codedCalendar calendar) t room
+
+abbrev pub uppinaloWriteIsoRoom : ℕ → ℤ → List ℕ → List ℕ
+uppinaloWriteIsoRoom calendar t room = roomByCode (codedCalendar calendar) t room

@@ -1,7 +1,6 @@
 // Days and instants of a calendar.
 ghost use mathlib.Core.Path.{_≡_};
-ghost use Rattle.codes.specs.Codes.{codedCalendar};
-ghost use Rattle.uppinalo.specs.Days.{noDate, noDay, noFields, ofDate, ofDay, ofFields, dateByCode, dayByCode, fieldsByCode};
+ghost use Rattle.uppinalo.specs.Days.{noDate, noDay, noFields, ofDate, ofDay, ofFields, uppinaloDateOfDay, uppinaloDayOfDate, uppinaloFieldsOf};
 use calendar::Date;
 use calendar::DateAnswer;
 use calendar::DayAnswer;
@@ -62,7 +61,7 @@ fn of_date(a: DateAnswer) -> UppinaloDateAnswer
 // The date of a day number.
 #[no_mangle]
 pub extern "C" fn uppinalo_date_of_day(calendar: u32, day: i64) -> UppinaloDateAnswer
-    ensures { λ r. ⌜ r ≡ dateByCode (codedCalendar calendar) day ⌝ }
+    ensures { λ r. ⌜ r ≡ uppinaloDateOfDay calendar day ⌝ }
 {
     match codes::calendar_of(calendar) {
         CodedCalendar::Unknown => return no_date(Refusal::UnknownCalendar),
@@ -91,7 +90,7 @@ fn of_day(a: DayAnswer) -> UppinaloDayAnswer
 // The day number of a date.
 #[no_mangle]
 pub extern "C" fn uppinalo_day_of_date(calendar: u32, date: Date) -> UppinaloDayAnswer
-    ensures { λ r. ⌜ r ≡ dayByCode (codedCalendar calendar) date ⌝ }
+    ensures { λ r. ⌜ r ≡ uppinaloDayOfDate calendar date ⌝ }
 {
     match codes::calendar_of(calendar) {
         CodedCalendar::Unknown => return no_day(Refusal::UnknownCalendar),
@@ -141,7 +140,7 @@ fn of_fields(a: FieldsAnswer) -> UppinaloFieldsAnswer
 // The fields of an instant.
 #[no_mangle]
 pub extern "C" fn uppinalo_fields_of(calendar: u32, instant: i64) -> UppinaloFieldsAnswer
-    ensures { λ r. ⌜ r ≡ fieldsByCode (codedCalendar calendar) instant ⌝ }
+    ensures { λ r. ⌜ r ≡ uppinaloFieldsOf calendar instant ⌝ }
 {
     match codes::calendar_of(calendar) {
         CodedCalendar::Unknown => return no_fields(Refusal::UnknownCalendar),

@@ -1,8 +1,6 @@
 // Runs of offsets on an axis.
 ghost use mathlib.Core.Path.{_≡_};
-ghost use Rattle.axis.specs.Axis.{readWholeOn, readDoubleOn};
-ghost use Rattle.codes.specs.Codes.{codedAxis};
-ghost use Rattle.uppinalo.specs.Runs.{noRun, runOn, destinationOn};
+ghost use Rattle.uppinalo.specs.Runs.{noRun, uppinaloReadWholes, uppinaloReadWholesDestination, uppinaloReadDoubles, uppinaloReadDoublesDestination};
 use codes::CodedAxis;
 use codes::UppinaloAxis;
 use refusal::Refusal;
@@ -26,8 +24,8 @@ pub extern "C" fn uppinalo_read_wholes(
     source: &[i64],
     destination: &mut [i64],
 ) -> RunAnswer
-    ensures answered { λ r. ⌜ r ≡ runOn (codedAxis axis) readWholeOn (now (source .entry)) (now (destination .entry)) ⌝ }
-    ensures written { λ _. ⌜ now (destination .exit) ≡ destinationOn (codedAxis axis) readWholeOn (now (source .entry)) (now (destination .entry)) ⌝ }
+    ensures answered { λ r. ⌜ r ≡ uppinaloReadWholes axis (now (source .entry)) (now (destination .entry)) ⌝ }
+    ensures written { λ _. ⌜ now (destination .exit) ≡ uppinaloReadWholesDestination axis (now (source .entry)) (now (destination .entry)) ⌝ }
 {
     match codes::axis_of(axis) {
         CodedAxis::Refused(r) => return no_run(r),
@@ -42,8 +40,8 @@ pub extern "C" fn uppinalo_read_doubles(
     source: &[f64],
     destination: &mut [i64],
 ) -> RunAnswer
-    ensures answered { λ r. ⌜ r ≡ runOn (codedAxis axis) readDoubleOn (now (source .entry)) (now (destination .entry)) ⌝ }
-    ensures written { λ _. ⌜ now (destination .exit) ≡ destinationOn (codedAxis axis) readDoubleOn (now (source .entry)) (now (destination .entry)) ⌝ }
+    ensures answered { λ r. ⌜ r ≡ uppinaloReadDoubles axis (now (source .entry)) (now (destination .entry)) ⌝ }
+    ensures written { λ _. ⌜ now (destination .exit) ≡ uppinaloReadDoublesDestination axis (now (source .entry)) (now (destination .entry)) ⌝ }
 {
     match codes::axis_of(axis) {
         CodedAxis::Refused(r) => return no_run(r),

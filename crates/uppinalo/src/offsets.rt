@@ -1,8 +1,6 @@
 // One offset on an axis.
 ghost use mathlib.Core.Path.{_≡_};
-ghost use Rattle.axis.specs.Axis.{readWholeOn, readDoubleOn, writeInstantOn, writeFieldsOn};
-ghost use Rattle.codes.specs.Codes.{codedAxis};
-ghost use Rattle.uppinalo.specs.Offsets.{noReading, ofReading, noOffset, ofOffset, readOn, writeOn};
+ghost use Rattle.uppinalo.specs.Offsets.{noReading, ofReading, noOffset, ofOffset, uppinaloReadWhole, uppinaloReadDouble, uppinaloWriteInstant, uppinaloWriteFields};
 use crate::texts::UppinaloReading;
 use axis_types::OffsetAnswer;
 use axis_types::Reading;
@@ -61,7 +59,7 @@ fn of_offset(a: OffsetAnswer) -> UppinaloOffsetAnswer
 // A whole offset read as an instant.
 #[no_mangle]
 pub extern "C" fn uppinalo_read_whole(axis: UppinaloAxis, offset: i64) -> UppinaloReading
-    ensures { λ r. ⌜ r ≡ readOn (codedAxis axis) (λ a. readWholeOn a offset) ⌝ }
+    ensures { λ r. ⌜ r ≡ uppinaloReadWhole axis offset ⌝ }
 {
     match codes::axis_of(axis) {
         CodedAxis::Refused(r) => return no_reading(r),
@@ -72,7 +70,7 @@ pub extern "C" fn uppinalo_read_whole(axis: UppinaloAxis, offset: i64) -> Uppina
 // A double read as an instant.
 #[no_mangle]
 pub extern "C" fn uppinalo_read_double(axis: UppinaloAxis, offset: f64) -> UppinaloReading
-    ensures { λ r. ⌜ r ≡ readOn (codedAxis axis) (λ a. readDoubleOn a offset) ⌝ }
+    ensures { λ r. ⌜ r ≡ uppinaloReadDouble axis offset ⌝ }
 {
     match codes::axis_of(axis) {
         CodedAxis::Refused(r) => return no_reading(r),
@@ -83,7 +81,7 @@ pub extern "C" fn uppinalo_read_double(axis: UppinaloAxis, offset: f64) -> Uppin
 // The whole offset that reads as an instant.
 #[no_mangle]
 pub extern "C" fn uppinalo_write_instant(axis: UppinaloAxis, instant: i64) -> UppinaloOffsetAnswer
-    ensures { λ r. ⌜ r ≡ writeOn (codedAxis axis) (λ a. writeInstantOn a instant) ⌝ }
+    ensures { λ r. ⌜ r ≡ uppinaloWriteInstant axis instant ⌝ }
 {
     match codes::axis_of(axis) {
         CodedAxis::Refused(r) => return no_offset(r),
@@ -94,7 +92,7 @@ pub extern "C" fn uppinalo_write_instant(axis: UppinaloAxis, instant: i64) -> Up
 // The whole offset that reads as the instant of fields.
 #[no_mangle]
 pub extern "C" fn uppinalo_write_fields(axis: UppinaloAxis, fields: Fields) -> UppinaloOffsetAnswer
-    ensures { λ r. ⌜ r ≡ writeOn (codedAxis axis) (λ a. writeFieldsOn a fields) ⌝ }
+    ensures { λ r. ⌜ r ≡ uppinaloWriteFields axis fields ⌝ }
 {
     match codes::axis_of(axis) {
         CodedAxis::Refused(r) => return no_offset(r),

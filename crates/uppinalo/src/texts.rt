@@ -1,9 +1,6 @@
 // Units text and ISO text.
 ghost use mathlib.Core.Path.{_≡_};
-ghost use Rattle.iso_text.specs.Iso.{readIso};
-ghost use Rattle.axis_text.specs.Units.{readUnits};
-ghost use Rattle.codes.specs.Codes.{codedCalendar};
-ghost use Rattle.uppinalo.specs.Texts.{noLength, ofLength, lengthByCode, roomByCode, ofInstant, noAxis, ofAxis};
+ghost use Rattle.uppinalo.specs.Texts.{noLength, ofLength, uppinaloWriteIso, uppinaloWriteIsoRoom, ofInstant, uppinaloReadIso, noAxis, ofAxis, uppinaloReadUnits};
 use axis_text::AxisAnswer;
 use codes::CodedCalendar;
 use codes::UppinaloAxis;
@@ -50,7 +47,7 @@ fn of_instant(a: InstantAnswer) -> UppinaloReading
 // The instant of an ISO text, in the calendar of a name. What is read is exact.
 #[no_mangle]
 pub extern "C" fn uppinalo_read_iso(calendar: &[u8], text: &[u8]) -> UppinaloReading
-    ensures { λ r. ⌜ r ≡ ofInstant (readIso (now (calendar .entry)) (now (text .entry))) ⌝ }
+    ensures { λ r. ⌜ r ≡ uppinaloReadIso (now (calendar .entry)) (now (text .entry)) ⌝ }
 {
     of_instant(iso_text::read_iso(calendar, text))
 }
@@ -85,7 +82,7 @@ fn of_axis(a: AxisAnswer) -> UppinaloAxisAnswer
 // The axis of a units text, in the calendar of a name.
 #[no_mangle]
 pub extern "C" fn uppinalo_read_units(calendar: &[u8], text: &[u8]) -> UppinaloAxisAnswer
-    ensures { λ r. ⌜ r ≡ ofAxis (readUnits (now (calendar .entry)) (now (text .entry))) ⌝ }
+    ensures { λ r. ⌜ r ≡ uppinaloReadUnits (now (calendar .entry)) (now (text .entry)) ⌝ }
 {
     of_axis(axis_text::read_units(calendar, text))
 }
@@ -115,8 +112,8 @@ pub extern "C" fn uppinalo_write_iso(
     instant: i64,
     room: &mut [u8],
 ) -> UppinaloLengthAnswer
-    ensures { λ r. ⌜ r ≡ lengthByCode (codedCalendar calendar) instant (now (room .entry)) ⌝ }
-    ensures { λ _. ⌜ now (room .exit) ≡ roomByCode (codedCalendar calendar) instant (now (room .entry)) ⌝ }
+    ensures { λ r. ⌜ r ≡ uppinaloWriteIso calendar instant (now (room .entry)) ⌝ }
+    ensures { λ _. ⌜ now (room .exit) ≡ uppinaloWriteIsoRoom calendar instant (now (room .entry)) ⌝ }
 {
     match codes::calendar_of(calendar) {
         CodedCalendar::Unknown => return no_length(Refusal::UnknownCalendar),
