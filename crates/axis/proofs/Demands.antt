@@ -6,7 +6,9 @@
 --   whole-exact     a whole offset that is read is exact
 --   whole-between   a whole offset between two that are read is read
 --   double-between  and in fixed mode a double
+--   fields-written  fields are written as their instant is
 --   inexact-none    Inexact only where no offset reads as the instant
+--   days-read       on an axis of days a whole offset is read as crate `fixed_axis` reads it, in either mode
 --   moved           in calendar mode the date of the instant is that of the reference, moved at once by all the steps, and the time of day is kept
 --   fixed-double    a double on an axis of fixed mode is read as crate `fixed_axis` reads it, whose proofs/Demands.antt has demand 3
 --   whole-double    in calendar mode a whole double does as the whole offset
@@ -24,8 +26,9 @@ use mir.Val.{SFits}
 use Rattle.refusal.specs.declared.Refusal.{Refusal}
 use Rattle.refusal.specs.declared.Refusal.the-variants.{OutOfRange, Inexact}
 use Rattle.calendar.specs.declared.Calendar.{Calendar}
-use Rattle.instant.specs.Instant.{timeOf, inRange}
+use Rattle.instant.specs.Instant.{timeOf, inRange, instantAnswer}
 use Rattle.instant.specs.declared.Fields.{Fields}
+use Rattle.instant.specs.declared.InstantAnswer.{InstantAnswer}
 use Rattle.axis_types.specs.declared.Period.{Period}
 use Rattle.axis_types.specs.declared.Mode.{Mode}
 use Rattle.axis_types.specs.declared.Axis.{Axis}
@@ -36,13 +39,13 @@ use Rattle.double.specs.Whole.{wholeOf}
 use Rattle.double.specs.declared.whole.Whole.{Whole}
 use Rattle.step.specs.Steps.{dateAfter}
 use Rattle.step.specs.declared.Part.{Part}
-use Rattle.fixed_axis.specs.Fixed.{timeAfter, readDouble}
+use Rattle.fixed_axis.specs.Fixed.{timeAfter, readWhole, readDouble}
 use Rattle.fixed_axis.proofs.Offsets.{read-of}
 use Rattle.fixed_axis.proofs.Between as Between
 use Rattle.fixed_axis.proofs.Demands as Fixed
 use Rattle.calendar_axis.specs.Steps.{dateAt}
 use Rattle.calendar_axis.proofs.Demands as Steps
-use Rattle.axis.specs.Axis.{axisCheck, onGood, stepOn, readBy, writeBy, wholeOn, asWhole, doubleIn, doubleOn, offsetOn, readWholeOn, readDoubleOn, readOffset, writeInstantOn, writeFieldsOn}
+use Rattle.axis.specs.Axis.{axisCheck, onGood, stepIn, stepOn, readBy, writeBy, wholeOn, asWhole, doubleIn, doubleOn, offsetOn, readWholeOn, readDoubleOn, readOffset, onInstant, writeInstantOn, writeFieldsOn}
 use Rattle.axis.specs.Demands.{WholeReading, InstantWriting}
 use Rattle.axis.specs.declared.AxisCheck.{AxisCheck}
 use Rattle.axis.specs.declared.Step.{Step}
@@ -150,8 +153,20 @@ module _ (a : Axis) where
   pub inexact-none : (t : ℤ) → writeInstantOn a t ≡ OffsetAnswer.Refused Inexact → (n : ℤ) (exact : Bool) → readWholeOn a n ≡ Reading.At t exact → ⊥
   inexact-none t h n exact g = let e = writing (whole-good n t exact g) .read-writes n t exact g in let k : _≡_ {A = ℕ} 0 1 = cc in omega arith
 
+  pub fields-written : (f : Fields) (t : ℤ) → instantAnswer (a .calendar) f ≡ InstantAnswer.Is t → inRange (a .calendar) t ≡ true → writeFieldsOn a f ≡ writeInstantOn a t
+  unfolding writeFieldsOn writeInstantOn
+  fields-written f t e h = λ i. onGood (axisCheck a) OffsetAnswer.Refused ((ap (λ (q : InstantAnswer). onInstant q (offsetOn a)) e ∙ ap (λ (b : Bool). cond b (offsetOn a t) (OffsetAnswer.Refused OutOfRange)) (sym h)) i)
+
   pub whole-between : (x y z t u : ℤ) (i j : Bool) → leZ x y ≡ true → leZ y z ≡ true → readWholeOn a x ≡ Reading.At t i → readWholeOn a z ≡ Reading.At u j → (v : ℤ) × (readWholeOn a y ≡ Reading.At v true)
   whole-between x y z t u i j h g f e = reading (whole-good x t i f) .between x y z t u i j h g f e
+
+  pub days-read : AxisCheck.Good ≡ axisCheck a → a .period ≡ Period.Day → (n : ℤ) → readWholeOn a n ≡ readWhole (a .calendar) Period.Day (a .reference) n
+  unfolding readWholeOn
+  days-read g e n = (λ i. onGood (sym g i) Reading.Refused (readBy (stepIn (a .mode) (e i)) (a .calendar) (e i) (a .reference) n)) ∙ go (a .mode)
+    where
+      go : (m : Mode) → readBy (stepIn m Period.Day) (a .calendar) Period.Day (a .reference) n ≡ readWhole (a .calendar) Period.Day (a .reference) n
+      go Mode.Fixed = refl
+      go Mode.Calendar = refl
 
 -- ---- months and years in calendar mode
 module _ (a : Axis) (part : Part) (m : stepOn a ≡ Step.Date part) (n t : ℤ) (exact : Bool) (h : readWholeOn a n ≡ Reading.At t exact) where

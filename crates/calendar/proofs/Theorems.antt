@@ -2,9 +2,9 @@
 -- law of every row whose cutover meets `Days.Cutover`, read off for the rows of the calendars.
 use mathlib.Core.Path.{_≡_, refl, sym, ap, _∙_}
 use mathlib.Core.Bool.{Bool, true, false, _&&_, cond}
-use Prim.Native.Nat.{ℕ, suc, _+_, _-_, _<_, _^_}
+use Prim.Native.Nat.{ℕ, zero, suc, _+_, _-_, _<_, _^_}
 use native.Mathlib.Omega.{arith}
-use lib.IntN.{ℤ, pos, negsuc, sucℤ, subℕ}
+use lib.IntN.{ℤ, pos, negsuc, sucℤ, subℕ, _+ℤ_, +ℤ-sucℤ, +ℤ-idr, -ℤ-+ℤ-cancel}
 use lib.Dec.{leb, ltb}
 use lib.Signed.{leZ, ltZ}
 use borrow.Author.Tests.{leb-true, ltb-true, ltb-false, eqb-false}
@@ -12,7 +12,7 @@ use Rattle.refusal.specs.declared.Refusal.the-variants.{NoSuchDate, OutOfRange}
 use Rattle.signed.proofs.Tests.{and-parts}
 use Rattle.signed.proofs.Differences.{sub-low, sub-high}
 use Rattle.calendar.specs.Plain.{lacksYear}
-use Rattle.calendar.specs.Calendar.{hasYearZero, next, prev, dateOf, exists, inYears, date, rowOf, nextBy, prevBy, existsBy, dateBy, epoch}
+use Rattle.calendar.specs.Calendar.{hasYearZero, next, prev, dateOf, DaysOn, exists, inYears, date, rowOf, nextBy, prevBy, existsBy, dateBy, epoch, times}
 use Rattle.calendar.specs.Order.{earlier}
 use Rattle.calendar.specs.Answers.{dayNumber, dayAnswer}
 use Rattle.calendar.specs.Closed.{yearAt, count, placeOf, label, dayPlace, counts, lateFrom, lag, ruleAt, lagAt, dayByRule, epochDay, ruleOfDay}
@@ -86,6 +86,30 @@ module _ (c : Calendar) where
   -- the years -9999 to 9999 are those of the day numbers of an interval
   pub range : (z : ℤ) → inYears (dateOf c z .year) ≡ (leZ (lowDay c) z && leZ z (highDay c))
   range = Range.range c
+
+  -- n days after the date of a day number lies the date of the number n greater, and no other date that exists
+  steps-exist : (n : ℕ) (x : Date) → exists c x ≡ true → exists c (times n (next c) x) ≡ true
+  unfolding times next exists
+  steps-exist zero x h = h
+  steps-exist (suc n) x h = chain .after (times n (next c) x) (steps-exist n x h)
+
+  steps-on : (n : ℕ) (z : ℤ) → times n (next c) (dateOf c z) ≡ dateOf c (z +ℤ pos n)
+  unfolding times
+  steps-on zero z = ap (dateOf c) (sym (+ℤ-idr z))
+  steps-on (suc n) z = ap (next c) (steps-on n z) ∙ (next-date (z +ℤ pos n) ∙ ap (dateOf c) (sym (+ℤ-sucℤ z (pos n))))
+
+  one-start : (n : ℕ) (x y : Date) → exists c x ≡ true → exists c y ≡ true → times n (next c) x ≡ times n (next c) y → x ≡ y
+  unfolding times
+  one-start zero x y h g e = e
+  one-start (suc n) x y h g e = one-start n x y h g (sym (prev-next (times n (next c) x) (steps-exist n x h)) ∙ (ap (prev c) e ∙ prev-next (times n (next c) y) (steps-exist n y g)))
+
+  pub days-there : (z n : ℤ) → DaysOn c (dateOf c z) n (dateOf c (z +ℤ n))
+  days-there z (pos n) = steps-on n z
+  days-there z (negsuc n) = steps-on (suc n) (z +ℤ negsuc n) ∙ ap (dateOf c) (-ℤ-+ℤ-cancel z (pos (suc n)))
+
+  pub days-only : (z n : ℤ) (x : Date) → exists c x ≡ true → DaysOn c (dateOf c z) n x → x ≡ dateOf c (z +ℤ n)
+  days-only z (pos n) x h e = sym e ∙ days-there z (pos n)
+  days-only z (negsuc n) x h e = one-start (suc n) x (dateOf c (z +ℤ negsuc n)) h (dates-exist (z +ℤ negsuc n)) (e ∙ sym (days-there z (negsuc n)))
 
   -- the place of day n from the first place of the late rule, by the closed forms, and its date
   abbrev pub placeByRule : ℕ → Place

@@ -1,5 +1,6 @@
 -- The six calendars by their next-day rule: document 01, "Calendars". All else that is said of dates rests on `next`.
 -- A calendar is a row: two plain calendars, of one of which it keeps the days through `last`, and of the other those from `first` on.
+use mathlib.Core.Path.{_≡_}
 use mathlib.Core.Bool.{Bool, true, false, not, _&&_, cond}
 use Prim.Native.Nat.{ℕ, zero, suc}
 use lib.IntN.{ℤ, pos, negsuc}
@@ -81,6 +82,11 @@ exists c = existsBy (rowOf c)
 
 unfoldable pub dateOf : Calendar → ℤ → Date
 dateOf c = dateBy (rowOf c)
+
+-- y lies n days after x: n steps of the next-day rule lead from x to y, and of a negative number as many from y to x
+abbrev pub DaysOn : Calendar → Date → ℤ → Date → Type 0
+DaysOn c x (pos n) y = times n (next c) x ≡ y
+DaysOn c x (negsuc n) y = times (suc n) (next c) y ≡ x
 
 abbrev pub hasYearZero : Calendar → Bool
 hasYearZero c = rowOf c .zero

@@ -77,21 +77,28 @@ unfolding checked
 each-read read [] h = refl
 each-read read (x ∷ xs) h = let r = was-read (read x) (h .0) in λ i. after (sym (r .2) i) (each-read read xs (h .1) i)
 
--- where every offset is read, the one at each place is
-read-at : {A : Type 0} (read : A → Reading) (d : A) (xs : List A) (i : ℕ) → checked read xs ≡ Check.AllRead → i < length xs → isRead (read (getD xs i d)) ≡ true
+-- the first refusal, after offsets that are read
+pub first-refused : {A : Type 0} (read : A → Reading) (ys : List A) (y : A) (zs : List A) (r : Refusal) → Each (λ (x : A). isRead (read x) ≡ true) ys → read y ≡ Reading.Refused r → Check.Refused r (length ys) ≡ checked read (ys ++ y ∷ zs)
 unfolding checked
+first-refused read [] y zs r h e = λ i. after (sym e i) (checked read zs)
+first-refused read (x ∷ ys) y zs r h e = let q = was-read (read x) (h .0) in λ i. after (sym (q .2) i) (first-refused read ys y zs r (h .1) e i)
+
+-- where nothing is refused, each is read
+both-read : (r : Reading) (s : Check) → after r s ≡ Check.AllRead → (isRead r ≡ true) × (s ≡ Check.AllRead)
+both-read (Reading.At z exact) Check.AllRead e = (refl, refl)
+both-read (Reading.At z exact) (Check.Refused r place) e = absurd (let k : _≡_ {A = ℕ} 0 1 = cc in omega arith)
+both-read (Reading.Refused r) s e = absurd (let k : _≡_ {A = ℕ} 0 1 = cc in omega arith)
+
+pub each-checked : {A : Type 0} (read : A → Reading) (xs : List A) → checked read xs ≡ Check.AllRead → Each (λ (x : A). isRead (read x) ≡ true) xs
+unfolding checked
+each-checked read [] e = tt
+each-checked read (x ∷ xs) e = let b = both-read (read x) (checked read xs) e in (b .0, each-checked read xs (b .1))
+
+-- the one at each place
+read-at : {A : Type 0} (read : A → Reading) (d : A) (xs : List A) (i : ℕ) → Each (λ (x : A). isRead (read x) ≡ true) xs → i < length xs → isRead (read (getD xs i d)) ≡ true
 read-at read d [] i e h = absurd (not-suc-le-zero h)
-read-at read d (x ∷ xs) zero e h = first (read x) (checked read xs) e
-  where
-    first : (r : Reading) (s : Check) → after r s ≡ Check.AllRead → isRead r ≡ true
-    first (Reading.At z exact) s e = refl
-    first (Reading.Refused r) s e = absurd (let k : _≡_ {A = ℕ} 0 1 = cc in omega arith)
-read-at read d (x ∷ xs) (suc i) e h = read-at read d xs i (rest (read x) (checked read xs) e) (le-of-suc-le-suc h)
-  where
-    rest : (r : Reading) (s : Check) → after r s ≡ Check.AllRead → s ≡ Check.AllRead
-    rest (Reading.At z exact) Check.AllRead e = refl
-    rest (Reading.At z exact) (Check.Refused r place) e = absurd (let k : _≡_ {A = ℕ} 0 1 = cc in omega arith)
-    rest (Reading.Refused r) s e = absurd (let k : _≡_ {A = ℕ} 0 1 = cc in omega arith)
+read-at read d (x ∷ xs) zero e h = e .0
+read-at read d (x ∷ xs) (suc i) e h = read-at read d xs i (e .1) (le-of-suc-le-suc h)
 
 -- ---- the pass that writes
 module _ {A : Type 0} (read : A → Reading) where
@@ -127,7 +134,7 @@ module _ {A : Type 0} {read : A → Reading} {xs : List A} {ds : List ℤ} where
 
   module _ {now : List ℤ} {i : ℕ} (d : A) (w : Writing read xs ds now i) (h : i < length xs) where
     pub writing-read : isRead (read (getD xs i d)) ≡ true
-    writing-read = read-at read d xs i (w .all-read) h
+    writing-read = read-at read d xs i (each-checked read xs (w .all-read)) h
 
     -- one instant more, as it is stored
     pub writing-on : {t : ℤ} → SFits w64 t → t ≡ instantOf (read (getD xs i d)) → Writing read xs ds (set now i (toZ w64 (ofZ w64 t))) (i + 1)

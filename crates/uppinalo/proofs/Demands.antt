@@ -1,0 +1,25 @@
+-- The demands of specs/Demands.antt, all of them. Each part is proved in a file of its own, from the theorems of the crates below.
+use Rattle.codes.proofs.Back.{calendar-back, axis-back, calendar-known, axis-known}
+use Rattle.uppinalo.specs.Demands.{Demands}
+use Rattle.uppinalo.proofs.Zeros.{refusals}
+use Rattle.uppinalo.proofs.NextDay.{dates, days}
+use Rattle.uppinalo.proofs.Writings.{writing}
+use Rattle.uppinalo.proofs.Derived.{texts}
+use Rattle.uppinalo.proofs.Doubles.{doubles}
+use Rattle.uppinalo.proofs.Alone.{runs, past-reference}
+use Rattle.uppinalo.proofs.Range.{in-years}
+
+pub demands : Demands
+demands =
+    record {
+      codes = record { taken-back = axis-back; calendar-back = calendar-back; only-codes = axis-known; only-calendar = calendar-known };
+      refusals = refusals;
+      dates = dates;
+      days = days;
+      writing = writing;
+      texts = texts;
+      doubles = doubles;
+      runs = runs;
+      past-reference = past-reference;
+      in-years = in-years;
+    }

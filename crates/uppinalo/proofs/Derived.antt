@@ -1,0 +1,53 @@
+-- Demand 2, texts: ill-formed exactly where the grammar does not derive them.
+use mathlib.Core.Path.{_≡_, refl, sym, ap, _∙_}
+use mathlib.Core.List.{List}
+use mathlib.Core.Option.{some}
+use Prim.Native.Nat.{ℕ, _≤_}
+use native.Mathlib.Omega.{arith}
+use lib.ListN.{length}
+use Rattle.calendar.specs.declared.Calendar.{Calendar}
+use Rattle.instant.specs.declared.InstantAnswer.{InstantAnswer}
+use Rattle.calendar_name.specs.Names.{calendarOf}
+use Rattle.named_text.proofs.Laws.{text-derived, text-underived}
+use Rattle.date_text.specs.DateRule.{dateRule}
+use Rattle.date_text.specs.declared.WrittenDate.{WrittenDate}
+use Rattle.date_text.proofs.Texts.{date-clear}
+use Rattle.units_text.specs.UnitsRule.{units}
+use Rattle.units_text.specs.declared.Units.{Units}
+use Rattle.units_text.proofs.Texts.{units-clear}
+use Rattle.written_instant.specs.Instants.{writtenInstant}
+use Rattle.written_instant.proofs.Order.{written-refused}
+use Rattle.iso_text.specs.Iso.{readIso}
+use Rattle.axis_text.specs.Units.{axisAt, axisOf, readUnits}
+use Rattle.axis_text.specs.declared.AxisAnswer.{AxisAnswer}
+use Rattle.uppinalo.specs.Texts.{ofInstant, ofAxis}
+use Rattle.uppinalo.specs.Demands.{TextsByGrammar}
+
+module _ (name text : List ℕ) (c : Calendar) (l : length text ≤ 128) (n : calendarOf name ≡ some c) where
+  units-later : (u : Units) → ofAxis (axisOf c u) .number ≡ 3 → ⊥
+  units-later u = go (writtenInstant c (u .reference)) refl
+    where
+      go : (a : InstantAnswer) → writtenInstant c (u .reference) ≡ a → ofAxis (axisAt c u a) .number ≡ 3 → ⊥
+      go (InstantAnswer.Is t) e h = omega arith
+      go (InstantAnswer.Refused r) e h = omega (arith, written-refused c (u .reference) r e)
+
+  date-later : (w : WrittenDate) → ofInstant (writtenInstant c w) .number ≡ 3 → ⊥
+  date-later w = go (writtenInstant c w) refl
+    where
+      go : (a : InstantAnswer) → writtenInstant c w ≡ a → ofInstant a .number ≡ 3 → ⊥
+      go (InstantAnswer.Is t) e h = omega arith
+      go (InstantAnswer.Refused r) e h = omega (arith, written-refused c w r e)
+
+  pub texts : TextsByGrammar name text
+  unfolding readUnits readIso
+  texts =
+      record {
+        read-units = (
+          (λ h u d. units-later u (sym (ap (λ (a : AxisAnswer). ofAxis a .number) (text-derived AxisAnswer.Refused units axisOf name text c l n u units-clear d)) ∙ h)),
+          λ f. ap (λ (a : AxisAnswer). ofAxis a .number) (text-underived AxisAnswer.Refused units axisOf name text c l n f),
+        );
+        read-iso = (
+          (λ h w d. date-later w (sym (ap (λ (a : InstantAnswer). ofInstant a .number) (text-derived InstantAnswer.Refused dateRule writtenInstant name text c l n w date-clear d)) ∙ h)),
+          λ f. ap (λ (a : InstantAnswer). ofInstant a .number) (text-underived InstantAnswer.Refused dateRule writtenInstant name text c l n f),
+        );
+      }

@@ -1,0 +1,9 @@
+pub mod Boundary
+pub mod Zeros
+pub mod NextDay
+pub mod Writings
+pub mod Derived
+pub mod Doubles
+pub mod Alone
+pub mod Range
+pub mod Demands

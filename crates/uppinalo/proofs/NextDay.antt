@@ -1,0 +1,92 @@
+-- Demand 2, dates: day numbers, and offsets on an axis of days, by the next-day rule.
+use mathlib.Core.Path.{_≡_, refl, sym, ap, _∙_, subst}
+use mathlib.Core.Bool.{Bool, true, false, cond}
+use Prim.Native.Nat.{_+_}
+use lib.IntN.{ℤ, pos, _+ℤ_, +ℤ-idl}
+use Rattle.refusal.specs.declared.Refusal.the-variants.{OutOfRange}
+use Rattle.calendar.specs.Calendar.{times, dateBy, dateOf, DaysOn, inYears}
+use Rattle.calendar.specs.Answers.{dateAnswer}
+use Rattle.calendar.specs.declared.Calendar.{Calendar}
+use Rattle.calendar.specs.declared.Date.{Date}
+use Rattle.calendar.specs.declared.DateAnswer.{DateAnswer}
+use Rattle.calendar.proofs.Answering.{date-there}
+use Rattle.calendar.proofs.Theorems.{dates-exist, days-there, days-only}
+use Rattle.instant.specs.Instant.{dayOf, inRange, fieldsAt}
+use Rattle.instant.proofs.Theorems.{fields-in}
+use Rattle.axis_types.specs.declared.Axis.{Axis}
+use Rattle.axis_types.specs.declared.Period.{Period}
+use Rattle.fixed_axis.specs.Fixed.{timeAfter, readWhole}
+use Rattle.fixed_axis.proofs.Dates.{day-after, time-after}
+use Rattle.fixed_axis.proofs.Offsets.{reads}
+use Rattle.fixed_axis.proofs.Readings.{settled}
+use Rattle.axis.specs.Axis.{readWholeOn}
+use Rattle.axis.proofs.Laws.{good-in}
+use Rattle.axis.proofs.Demands as Axes
+use Rattle.codes.specs.Codes.{axisCode}
+use Rattle.uppinalo.specs.Days.{ofDate, noDate, ofDay, ofFields}
+use Rattle.uppinalo.specs.Offsets.{ofReading, uppinaloReadWhole}
+use Rattle.uppinalo.specs.Demands.{fieldsGiven, IsDay, DatesByNextDay, DaysFromReference, DaysRead}
+use Rattle.uppinalo.specs.declared.days.UppinaloDateAnswer.{UppinaloDateAnswer}
+use Rattle.uppinalo.proofs.Boundary.{read-is, date-is, day-is, fields-is}
+
+-- ---- demand 2: dates
+
+module _ (c : Calendar) where
+  is-date : (n : ℤ) (d : Date) → IsDay c n d → d ≡ dateOf c n
+  unfolding dateOf dateBy times
+  is-date n d p = days-only c (pos 0) n d (p .there) (p .steps) ∙ ap (dateOf c) (+ℤ-idl n)
+
+  dated : (n : ℤ) → IsDay c n (dateOf c n)
+  unfolding dateOf dateBy times
+  dated n = record { there = dates-exist c n; steps = subst (λ (z : ℤ). DaysOn c (dateOf c (pos 0)) n (dateOf c z)) (+ℤ-idl n) (days-there c (pos 0) n) }
+
+  -- the answer of a date, or 5
+  abbrev inYearsOnly : Date → UppinaloDateAnswer
+  inYearsOnly d = cond (inYears (d .year)) (record { number = 0; date = d }) (noDate OutOfRange)
+
+  answered : (n : ℤ) → ofDate (dateAnswer c n) ≡ inYearsOnly (dateOf c n)
+  unfolding dateAnswer
+  answered n = go (inYears (dateOf c n .year))
+    where
+      go : (b : Bool) → ofDate (cond b (DateAnswer.Is (dateOf c n)) (DateAnswer.Refused OutOfRange)) ≡ cond b (record { number = 0; date = dateOf c n }) (noDate OutOfRange)
+      go true = refl
+      go false = refl
+
+  pub dates : DatesByNextDay c
+  dates =
+      record {
+        dated = λ n. (dateOf c n, dated n);
+        one-date = λ n d e p q. is-date n d p ∙ sym (is-date n e q);
+        date-of-day = λ n d p. date-is c n ∙ (answered n ∙ ap inYearsOnly (sym (is-date n d p)));
+        day-of-date = λ n d p h. day-is c d ∙ ap ofDay (sym (date-there c d n h (p .there) (sym (is-date n d p))));
+      }
+
+-- ---- demand 2: days from a reference
+
+module _ (x : Axis) (n : ℤ) (d : Date) (h : DaysFromReference x n d) where
+  abbrev c : Calendar
+  c = x .calendar
+
+  abbrev t : ℤ
+  t = timeAfter Period.Day (x .reference) n
+
+  date-of-time : dateOf c (dayOf t) ≡ d
+  date-of-time = ap (dateOf c) (day-after (x .reference) n) ∙ sym (days-only c (dayOf (x .reference)) n d (h .there) (h .steps))
+
+  by-days : uppinaloReadWhole (axisCode x) n ≡ ofReading (readWhole c Period.Day (x .reference) n)
+  by-days = read-is x (λ (a : Axis). readWholeOn a n) ∙ ap ofReading (Axes.days-read x (good-in x (h .good)) (h .days) n)
+
+  in-years-of : {b : Bool} → inYears (d .year) ≡ b → inRange c t ≡ b
+  in-years-of k = ap (λ (y : Date). inYears (y .year)) date-of-time ∙ k
+
+  pub days : DaysRead x n d
+  unfolding readWhole
+  days =
+      record {
+        inside = λ k. (
+          t,
+          by-days ∙ ap ofReading (reads c Period.Day (x .reference) n t (in-years-of k) refl),
+          fields-is c t ∙ (ap ofFields (fields-in c t (in-years-of k)) ∙ (λ i. fieldsGiven (fieldsAt (date-of-time i) (time-after (x .reference) n i)))),
+        );
+        past = λ k. by-days ∙ ap ofReading (sym (settled c t true (in-years-of k)));
+      }

@@ -1,0 +1,104 @@
+-- Every instant that is handed out, and the reference of every axis, lies in the years -9999 to 9999.
+use mathlib.Core.Path.{_≡_, refl, sym, ap, _∙_, subst}
+use mathlib.Core.Bool.{Bool, true}
+use mathlib.Core.List.{List, [], _∷_, map}
+use mathlib.Core.Option.{some}
+use Prim.Native.Nat.{ℕ}
+use lib.IntN.{ℤ}
+use lib.ListN.{length, take, drop, length-map}
+use lib.Seq.{take-at}
+use Rattle.refusal.proofs.Numbers.{not-success}
+use Rattle.calendar.specs.declared.Calendar.{Calendar}
+use Rattle.instant.specs.Instant.{inRange}
+use Rattle.instant.specs.declared.InstantAnswer.{InstantAnswer}
+use Rattle.axis_types.specs.Reading.{isRead, instantOf}
+use Rattle.axis_types.specs.declared.Axis.{Axis}
+use Rattle.axis_types.specs.declared.Offset.{Offset}
+use Rattle.axis_types.specs.declared.Reading.{Reading}
+use Rattle.axis_types.proofs.Answers.{was-read}
+use Rattle.axis.specs.Axis.{axisCheck, readWholeOn, readDoubleOn, readOffset}
+use Rattle.axis.specs.declared.AxisCheck.{AxisCheck}
+use Rattle.axis.proofs.Demands as Axes
+use Rattle.run_ends.specs.Ends.{Each}
+use Rattle.runs.specs.Run.{checked, roundedCount, overlaid, runCheck, checkAnswer, runAnswer, chosen, runWritten}
+use Rattle.runs.specs.declared.Check.{Check}
+use Rattle.runs.proofs.Passes.{each-checked, passed}
+use Rattle.calendar_name.specs.Names.{calendarOf}
+use Rattle.named_text.proofs.Laws.{text-outcome}
+use Rattle.date_text.specs.DateRule.{dateRule}
+use Rattle.date_text.specs.declared.WrittenDate.{WrittenDate}
+use Rattle.units_text.specs.UnitsRule.{units}
+use Rattle.units_text.specs.declared.Units.{Units}
+use Rattle.written_instant.specs.Instants.{writtenInstant}
+use Rattle.written_instant.proofs.Order.{written-inside}
+use Rattle.iso_text.specs.Iso.{readIso}
+use Rattle.axis_text.specs.Units.{axisAt, axisOf, readUnits}
+use Rattle.axis_text.specs.declared.AxisAnswer.{AxisAnswer}
+use Rattle.codes.specs.Codes.{codedAxis, axisCode}
+use Rattle.codes.specs.declared.CodedAxis.{CodedAxis}
+use Rattle.codes.proofs.Back.{axis-back}
+use Rattle.uppinalo.specs.Offsets.{readOn}
+use Rattle.uppinalo.specs.Runs.{runOn, destinationOn}
+use Rattle.uppinalo.specs.Texts.{ofInstant, ofAxis}
+use Rattle.uppinalo.specs.Demands.{readAt, GivenInYears}
+use Rattle.uppinalo.specs.declared.texts.UppinaloReading.{UppinaloReading}
+use Rattle.uppinalo.proofs.Boundary.{read-is, reading-at}
+
+offset-inside : (x : Axis) (t : ℤ) (exact : Bool) (o : Offset) → readOn (codedAxis (axisCode x)) (λ (a : Axis). readOffset a o) ≡ readAt t exact → inRange (x .calendar) t ≡ true
+offset-inside x t exact o h = Axes.read-inside x t exact o (reading-at (readOffset x o) t exact (sym (read-is x (λ (a : Axis). readOffset a o)) ∙ h))
+
+module _ {A : Type 0} (c : Calendar) (read : A → Reading) (inside : (y : A) (t : ℤ) (exact : Bool) → read y ≡ Reading.At t exact → inRange c t ≡ true) where
+  each-inside : (xs : List A) → Each (λ (y : A). isRead (read y) ≡ true) xs → Each (λ (t : ℤ). inRange c t ≡ true) (map (λ (y : A). instantOf (read y)) xs)
+  each-inside [] h = tt
+  each-inside (y ∷ xs) h = let r = was-read (read y) (h .0) in (ap (λ (q : Reading). inRange c (instantOf q)) (r .2) ∙ inside y (r .0) (r .1) (r .2), each-inside xs (h .1))
+
+  destination-inside : (k : AxisCheck) (xs : List A) (ds : List ℤ) → runAnswer read k xs ds .number ≡ 0 → Each (λ (t : ℤ). inRange c t ≡ true) (take (length xs) (runWritten read k xs ds))
+  unfolding overlaid
+  destination-inside k xs ds = go (runCheck read k xs (length ds)) refl
+    where
+      go : (q : Check) → runCheck read k xs (length ds) ≡ q → checkAnswer q (length xs) (roundedCount read xs) .number ≡ 0 → Each (λ (t : ℤ). inRange c t ≡ true) (take (length xs) (chosen q (overlaid read xs ds) ds))
+      go Check.AllRead e h = subst (Each (λ (t : ℤ). inRange c t ≡ true)) (sym (take-at (map (λ (y : A). instantOf (read y)) xs) (drop (length xs) ds) (length xs) (length-map xs (λ (y : A). instantOf (read y))))) (each-inside xs (each-checked read xs (passed k (length xs) (length ds) (checked read xs) e .all-read)))
+      go (Check.Refused r place) e h = absurd (not-success r h)
+
+run-inside : {A : Type 0} (x : Axis) (read : Axis → A → Reading) → ((y : A) (t : ℤ) (exact : Bool) → read x y ≡ Reading.At t exact → inRange (x .calendar) t ≡ true) → (xs : List A) (ds : List ℤ) → runOn (codedAxis (axisCode x)) read xs ds .number ≡ 0
+    → Each (λ (t : ℤ). inRange (x .calendar) t ≡ true) (take (length xs) (destinationOn (codedAxis (axisCode x)) read xs ds))
+run-inside x read inside xs ds =
+    subst (λ (k : CodedAxis). runOn k read xs ds .number ≡ 0 → Each (λ (t : ℤ). inRange (x .calendar) t ≡ true) (take (length xs) (destinationOn k read xs ds))) (sym (axis-back x))
+    (destination-inside (x .calendar) (read x) inside (axisCheck x) xs ds)
+
+iso-inside : (name text : List ℕ) (c : Calendar) (t : ℤ) (exact : Bool) → calendarOf name ≡ some c → ofInstant (readIso name text) ≡ readAt t exact → inRange c t ≡ true
+unfolding readIso
+iso-inside name text c t exact n =
+    text-outcome InstantAnswer.Refused dateRule writtenInstant name text (λ (a : InstantAnswer). ofInstant a ≡ readAt t exact → inRange c t ≡ true)
+    (λ r h. absurd (not-success r (ap (λ (q : UppinaloReading). q .number) h)))
+    (λ b w e. go b w e (writtenInstant b w) refl)
+  where
+    go : (b : Calendar) (w : WrittenDate) → calendarOf name ≡ some b → (a : InstantAnswer) → writtenInstant b w ≡ a → ofInstant a ≡ readAt t exact → inRange c t ≡ true
+    go b w e (InstantAnswer.Is u) f h =
+        let p = sym e ∙ n in
+        let q : b ≡ c = cc in
+        (λ i. inRange (sym q i) (sym (ap (λ (r : UppinaloReading). r .instant) h) i)) ∙ written-inside b w u f
+    go b w e (InstantAnswer.Refused r) f h = absurd (not-success r (ap (λ (q : UppinaloReading). q .number) h))
+
+units-inside : (name text : List ℕ) → ofAxis (readUnits name text) .number ≡ 0 → (x : Axis) × (ofAxis (readUnits name text) .axis ≡ axisCode x) × (inRange (x .calendar) (x .reference) ≡ true)
+unfolding readUnits
+units-inside name text =
+    text-outcome AxisAnswer.Refused units axisOf name text (λ (a : AxisAnswer). ofAxis a .number ≡ 0 → (x : Axis) × (ofAxis a .axis ≡ axisCode x) × (inRange (x .calendar) (x .reference) ≡ true))
+    (λ r h. absurd (not-success r h))
+    (λ c u e. go c u (writtenInstant c (u .reference)) refl)
+  where
+    go : (c : Calendar) (u : Units) (a : InstantAnswer) → writtenInstant c (u .reference) ≡ a → ofAxis (axisAt c u a) .number ≡ 0 → (x : Axis) × (ofAxis (axisAt c u a) .axis ≡ axisCode x) × (inRange (x .calendar) (x .reference) ≡ true)
+    go c u (InstantAnswer.Is t) f h = (record { calendar = c; period = u .period; mode = u .mode; reference = t }, refl, written-inside c (u .reference) t f)
+    go c u (InstantAnswer.Refused r) f h = absurd (not-success r h)
+
+pub in-years : GivenInYears
+unfolding readOffset
+in-years =
+    record {
+      read-whole = λ x n t exact. offset-inside x t exact (Offset.Whole n);
+      read-double = λ x y t exact. offset-inside x t exact (Offset.Double y);
+      read-wholes = λ x. run-inside x readWholeOn (λ n t exact. Axes.read-inside x t exact (Offset.Whole n));
+      read-doubles = λ x. run-inside x readDoubleOn (λ y t exact. Axes.read-inside x t exact (Offset.Double y));
+      read-iso = iso-inside;
+      read-units = units-inside;
+    }

@@ -1,0 +1,70 @@
+-- Demand 2, writing: Inexact exactly where no 64-bit offset reads as the instant, and else what is written reads as it.
+use mathlib.Core.Path.{_≡_, refl, sym, ap, _∙_, subst}
+use mathlib.Core.Bool.{true}
+use Prim.Native.Nat.{ℕ}
+use native.Mathlib.Omega.{arith}
+use lib.IntN.{ℤ}
+use mir.Syntax.{w64}
+use mir.Val.{SFits}
+use Rattle.refusal.specs.Number.{numberOf}
+use Rattle.refusal.specs.declared.Refusal.the-variants.{Inexact}
+use Rattle.calendar.specs.Answers.{dayNumber, dayAnswer}
+use Rattle.instant.specs.Instant.{instantAt, inRange, fieldsAnswer, dateIn, clockTime, instantAnswer}
+use Rattle.instant.specs.declared.Fields.{Fields}
+use Rattle.instant.specs.declared.FieldsAnswer.{FieldsAnswer}
+use Rattle.instant.specs.declared.InstantAnswer.{InstantAnswer}
+use Rattle.instant.proofs.Theorems.{shown, fields-of-instant}
+use Rattle.axis_types.specs.declared.Axis.{Axis}
+use Rattle.axis_types.specs.declared.Reading.{Reading}
+use Rattle.axis_types.specs.declared.OffsetAnswer.{OffsetAnswer}
+use Rattle.axis.specs.Axis.{readWholeOn, writeInstantOn, writeFieldsOn}
+use Rattle.axis.proofs.Laws.{good-in}
+use Rattle.axis.proofs.Demands as Axes
+use Rattle.codes.specs.Codes.{axisCode}
+use Rattle.uppinalo.specs.Days.{ofFields}
+use Rattle.uppinalo.specs.Offsets.{ofReading, ofOffset, uppinaloReadWhole, uppinaloWriteInstant, uppinaloWriteFields}
+use Rattle.uppinalo.specs.Demands.{readAt, WritesExactly, HasFields, WritingBack, GoodReference}
+use Rattle.uppinalo.proofs.Boundary.{read-is, write-is, fields-is, reading-at}
+
+module _ (x : Axis) (g : GoodReference x) where
+  reads-as : (n t : ℤ) → readWholeOn x n ≡ Reading.At t true → uppinaloReadWhole (axisCode x) n ≡ readAt t true
+  reads-as n t h = read-is x (λ (a : Axis). readWholeOn a n) ∙ ap ofReading h
+
+  reads-back : (n t : ℤ) → uppinaloReadWhole (axisCode x) n ≡ readAt t true → readWholeOn x n ≡ Reading.At t true
+  reads-back n t h = reading-at (readWholeOn x n) t true (sym (read-is x (λ (a : Axis). readWholeOn a n)) ∙ h)
+
+  module _ (t : ℤ) (h : inRange (x .calendar) t ≡ true) where
+    exactly : (a : OffsetAnswer) → writeInstantOn x t ≡ a → WritesExactly x t (ofOffset a)
+    exactly (OffsetAnswer.Is n) e =
+        let w = Axes.writing x (good-in x g) in
+        let f = w .written-fits t n e in
+        let r = reads-as n t (w .written-reads t n e) in
+        record { inexact = ((λ k. absurd (omega arith)), λ none. absurd (none n f r)); written = λ k. (refl, f, r) }
+    exactly (OffsetAnswer.Refused r) e =
+        let w = Axes.writing x (good-in x g) in
+        let none : (n : ℤ) → SFits w64 n → uppinaloReadWhole (axisCode x) n ≡ readAt t true → ⊥ = λ n f k. let m = sym e ∙ w .read-writes n t true (reads-back n t k) in (let z : _≡_ {A = ℕ} 0 1 = cc in omega arith) in
+        let m = sym e ∙ w .none-inexact t h (λ n f k. none n f (reads-as n t k)) in
+        let is : r ≡ Inexact = cc in
+        record { inexact = ((λ k. none), λ k. ap numberOf is); written = λ k. absurd (k (ap numberOf is)) }
+
+    instant-written : WritesExactly x t (uppinaloWriteInstant (axisCode x) t)
+    instant-written = subst (WritesExactly x t) (sym (write-is x (λ (a : Axis). writeInstantOn a t))) (exactly (writeInstantOn x t) refl)
+
+  module _ (f : Fields) (h : HasFields (x .calendar) f) where
+    abbrev at : ℤ
+    at = instantAt (dayNumber (x .calendar) (dateIn f)) (clockTime f)
+
+    has : instantAnswer (x .calendar) f ≡ InstantAnswer.Is at
+    unfolding instantAnswer dayAnswer
+    has = rw (h .year, h .there, h .clock)
+
+    fields-at : fieldsAnswer (x .calendar) at ≡ FieldsAnswer.Is f
+    fields-at = fields-of-instant (x .calendar) f at has
+
+    fields-written : WritesExactly x at (uppinaloWriteFields (axisCode x) f)
+    fields-written =
+        let i = shown (x .calendar) at f fields-at .inside in
+        subst (WritesExactly x at) (sym (write-is x (λ (a : Axis). writeFieldsOn a f) ∙ ap ofOffset (Axes.fields-written x f at has i))) (exactly at i (writeInstantOn x at) refl)
+
+  pub writing : WritingBack x
+  writing = record { instant = instant-written; fields = λ f h. (at f h, fields-is (x .calendar) (at f h) ∙ ap ofFields (fields-at f h), fields-written f h) }

@@ -1,0 +1,125 @@
+-- Demand 1: a refused answer has zeros beside its number, and what was lent to be written is as it was.
+use mathlib.Core.Path.{refl}
+use mathlib.Core.Bool.{Bool, true, false, cond}
+use mathlib.Core.List.{List, _++_}
+use Prim.Native.Nat.{ℕ, _+_}
+use lib.Dec.{leb}
+use lib.IntN.{ℤ}
+use lib.ListN.{length, drop}
+use Rattle.refusal.specs.declared.Refusal.the-variants.{NoRoom}
+use Rattle.calendar.specs.Answers.{dateAnswer, dayAnswer}
+use Rattle.calendar.specs.declared.Date.{Date}
+use Rattle.calendar.specs.declared.DateAnswer.{DateAnswer}
+use Rattle.calendar.specs.declared.DayAnswer.{DayAnswer}
+use Rattle.instant.specs.Instant.{fieldsAnswer}
+use Rattle.instant.specs.declared.FieldsAnswer.{FieldsAnswer}
+use Rattle.instant.specs.declared.InstantAnswer.{InstantAnswer}
+use Rattle.axis_types.specs.declared.Axis.{Axis}
+use Rattle.axis_types.specs.declared.Reading.{Reading}
+use Rattle.axis_types.specs.declared.OffsetAnswer.{OffsetAnswer}
+use Rattle.axis.specs.Axis.{axisCheck, readWholeOn, readDoubleOn, writeInstantOn, writeFieldsOn}
+use Rattle.runs.specs.Run.{roundedCount, overlaid, runCheck, checkAnswer, chosen}
+use Rattle.runs.specs.declared.Check.{Check}
+use Rattle.iso_form.specs.Form.{lengthAnswer, over}
+use Rattle.iso_form.specs.declared.LengthAnswer.{LengthAnswer}
+use Rattle.iso_text.specs.Iso.{textOf, isoLength, isoRoom, readIso, writeIso, roomIso}
+use Rattle.axis_text.specs.Units.{readUnits}
+use Rattle.axis_text.specs.declared.AxisAnswer.{AxisAnswer}
+use Rattle.codes.specs.Codes.{codedCalendar, codedAxis}
+use Rattle.codes.specs.declared.CodedCalendar.{CodedCalendar}
+use Rattle.codes.specs.declared.CodedAxis.{CodedAxis}
+use Rattle.uppinalo.specs.Days.{ofDate, ofDay, ofFields, dateByCode, dayByCode, fieldsByCode}
+use Rattle.uppinalo.specs.Offsets.{ofReading, readOn, ofOffset, writeOn}
+use Rattle.uppinalo.specs.Runs.{runOn, destinationOn}
+use Rattle.uppinalo.specs.Texts.{ofInstant, ofAxis, ofLength, lengthByCode, roomByCode}
+use Rattle.uppinalo.specs.Demands.{DateOrZero, DayOrZero, FieldsOrZero, ReadingOrZero, OffsetOrZero, AxisOrZero, LengthOrZero, RunOrZero, ZeroBesideRefusal}
+
+of-date : (a : DateAnswer) → DateOrZero (ofDate a)
+of-date (DateAnswer.Is d) h = absurd (h refl)
+of-date (DateAnswer.Refused r) h = refl
+
+of-day : (a : DayAnswer) → DayOrZero (ofDay a)
+of-day (DayAnswer.Is n) h = absurd (h refl)
+of-day (DayAnswer.Refused r) h = refl
+
+of-fields : (a : FieldsAnswer) → FieldsOrZero (ofFields a)
+of-fields (FieldsAnswer.Is f) h = absurd (h refl)
+of-fields (FieldsAnswer.Refused r) h = refl
+
+of-reading : (a : Reading) → ReadingOrZero (ofReading a)
+of-reading (Reading.At t exact) h = absurd (h refl)
+of-reading (Reading.Refused r) h = (refl, refl)
+
+of-offset : (a : OffsetAnswer) → OffsetOrZero (ofOffset a)
+of-offset (OffsetAnswer.Is n) h = absurd (h refl)
+of-offset (OffsetAnswer.Refused r) h = refl
+
+of-instant : (a : InstantAnswer) → ReadingOrZero (ofInstant a)
+of-instant (InstantAnswer.Is t) h = absurd (h refl)
+of-instant (InstantAnswer.Refused r) h = (refl, refl)
+
+of-axis : (a : AxisAnswer) → AxisOrZero (ofAxis a)
+of-axis (AxisAnswer.Is a) h = absurd (h refl)
+of-axis (AxisAnswer.Refused r) h = refl
+
+of-check : (k : Check) (n r : ℕ) (written kept : List ℤ) → RunOrZero (checkAnswer k n r) kept (chosen k written kept)
+of-check Check.AllRead n r written kept h = absurd (h refl)
+of-check (Check.Refused q place) n r written kept h = (refl, refl, refl)
+
+of-room : (text room : List ℕ) → LengthOrZero (ofLength (lengthAnswer text room)) room (over text room)
+unfolding lengthAnswer over
+of-room text room = go (leb (length text) (length room))
+  where
+    go : (b : Bool) → LengthOrZero (ofLength (cond b (LengthAnswer.Is (length text)) (LengthAnswer.Refused NoRoom))) room (cond b (text ++ drop (length text) room) room)
+    go true h = absurd (h refl)
+    go false h = (refl, refl)
+
+of-iso : (a : FieldsAnswer) (room : List ℕ) → LengthOrZero (ofLength (isoLength a room)) room (isoRoom a room)
+of-iso (FieldsAnswer.Is f) room = of-room (textOf f) room
+of-iso (FieldsAnswer.Refused r) room = λ h. (refl, refl)
+
+date-zero : (k : CodedCalendar) (n : ℤ) → DateOrZero (dateByCode k n)
+date-zero (CodedCalendar.Is c) n = of-date (dateAnswer c n)
+date-zero CodedCalendar.Unknown n = λ h. refl
+
+day-zero : (k : CodedCalendar) (x : Date) → DayOrZero (dayByCode k x)
+day-zero (CodedCalendar.Is c) x = of-day (dayAnswer c x)
+day-zero CodedCalendar.Unknown x = λ h. refl
+
+fields-zero : (k : CodedCalendar) (t : ℤ) → FieldsOrZero (fieldsByCode k t)
+fields-zero (CodedCalendar.Is c) t = of-fields (fieldsAnswer c t)
+fields-zero CodedCalendar.Unknown t = λ h. refl
+
+length-zero : (k : CodedCalendar) (t : ℤ) (room : List ℕ) → LengthOrZero (lengthByCode k t room) room (roomByCode k t room)
+unfolding writeIso roomIso
+length-zero (CodedCalendar.Is c) t room = of-iso (fieldsAnswer c t) room
+length-zero CodedCalendar.Unknown t room = λ h. (refl, refl)
+
+reading-zero : (k : CodedAxis) (read : Axis → Reading) → ReadingOrZero (readOn k read)
+reading-zero (CodedAxis.Is a) read = of-reading (read a)
+reading-zero (CodedAxis.Refused r) read = λ h. (refl, refl)
+
+offset-zero : (k : CodedAxis) (write : Axis → OffsetAnswer) → OffsetOrZero (writeOn k write)
+offset-zero (CodedAxis.Is a) write = of-offset (write a)
+offset-zero (CodedAxis.Refused r) write = λ h. refl
+
+run-zero : {A : Type 0} (k : CodedAxis) (read : Axis → A → Reading) (xs : List A) (ds : List ℤ) → RunOrZero (runOn k read xs ds) ds (destinationOn k read xs ds)
+run-zero (CodedAxis.Is a) read xs ds = of-check (runCheck (read a) (axisCheck a) xs (length ds)) (length xs) (roundedCount (read a) xs) (overlaid (read a) xs ds) ds
+run-zero (CodedAxis.Refused r) read xs ds = λ h. (refl, refl, refl)
+
+pub refusals : ZeroBesideRefusal
+refusals =
+    record {
+      date-of-day = λ calendar. date-zero (codedCalendar calendar);
+      day-of-date = λ calendar. day-zero (codedCalendar calendar);
+      fields-of = λ calendar. fields-zero (codedCalendar calendar);
+      read-whole = λ a n. reading-zero (codedAxis a) (λ x. readWholeOn x n);
+      read-double = λ a y. reading-zero (codedAxis a) (λ x. readDoubleOn x y);
+      write-instant = λ a t. offset-zero (codedAxis a) (λ x. writeInstantOn x t);
+      write-fields = λ a f. offset-zero (codedAxis a) (λ x. writeFieldsOn x f);
+      read-wholes = λ a. run-zero (codedAxis a) readWholeOn;
+      read-doubles = λ a. run-zero (codedAxis a) readDoubleOn;
+      read-iso = λ name text. of-instant (readIso name text);
+      read-units = λ name text. of-axis (readUnits name text);
+      write-iso = λ calendar. length-zero (codedCalendar calendar);
+    }
