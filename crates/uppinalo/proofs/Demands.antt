@@ -2,7 +2,7 @@
 use Rattle.codes.proofs.Back.{calendar-back, axis-back, calendar-known, axis-known}
 use Rattle.uppinalo.specs.Demands.{Demands}
 use Rattle.uppinalo.proofs.Zeros.{refusals}
-use Rattle.uppinalo.proofs.NextDay.{dates, days}
+use Rattle.uppinalo.proofs.NextDay.{dates, days-after, days}
 use Rattle.uppinalo.proofs.Writings.{writing}
 use Rattle.uppinalo.proofs.Derived.{texts}
 use Rattle.uppinalo.proofs.Doubles.{doubles}
@@ -15,6 +15,7 @@ demands =
       codes = record { taken-back = axis-back; calendar-back = calendar-back; only-codes = axis-known; only-calendar = calendar-known };
       refusals = refusals;
       dates = dates;
+      days-there = days-after;
       days = days;
       writing = writing;
       texts = texts;

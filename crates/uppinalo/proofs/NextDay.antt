@@ -1,7 +1,6 @@
 -- Demand 2, dates: day numbers, and offsets on an axis of days, by the next-day rule.
 use mathlib.Core.Path.{_≡_, refl, sym, ap, _∙_, subst}
 use mathlib.Core.Bool.{Bool, true, false, cond}
-use Prim.Native.Nat.{_+_}
 use lib.IntN.{ℤ, pos, _+ℤ_, +ℤ-idl}
 use Rattle.refusal.specs.declared.Refusal.the-variants.{OutOfRange}
 use Rattle.calendar.specs.Calendar.{times, dateBy, dateOf, DaysOn, inYears}
@@ -11,7 +10,7 @@ use Rattle.calendar.specs.declared.Date.{Date}
 use Rattle.calendar.specs.declared.DateAnswer.{DateAnswer}
 use Rattle.calendar.proofs.Answering.{date-there}
 use Rattle.calendar.proofs.Theorems.{dates-exist, days-there, days-only}
-use Rattle.instant.specs.Instant.{dayOf, inRange, fieldsAt}
+use Rattle.instant.specs.Instant.{dayOf, timeOf, inRange, fieldsAt, withTime, fieldsAnswer}
 use Rattle.instant.proofs.Theorems.{fields-in}
 use Rattle.axis_types.specs.declared.Axis.{Axis}
 use Rattle.axis_types.specs.declared.Period.{Period}
@@ -23,9 +22,9 @@ use Rattle.axis.specs.Axis.{readWholeOn}
 use Rattle.axis.proofs.Laws.{good-in}
 use Rattle.axis.proofs.Demands as Axes
 use Rattle.codes.specs.Codes.{axisCode}
-use Rattle.uppinalo.specs.Days.{ofDate, noDate, ofDay, ofFields}
+use Rattle.uppinalo.specs.Days.{ofDate, noDate, ofDay, noFields, ofFields}
 use Rattle.uppinalo.specs.Offsets.{ofReading, uppinaloReadWhole}
-use Rattle.uppinalo.specs.Demands.{fieldsGiven, IsDay, DatesByNextDay, DaysFromReference, DaysRead}
+use Rattle.uppinalo.specs.Demands.{GoodReference, fieldsGiven, IsDay, DatesByNextDay, DaysFromReference, DaysRead}
 use Rattle.uppinalo.specs.declared.days.UppinaloDateAnswer.{UppinaloDateAnswer}
 use Rattle.uppinalo.proofs.Boundary.{read-is, date-is, day-is, fields-is}
 
@@ -52,16 +51,30 @@ module _ (c : Calendar) where
       go true = refl
       go false = refl
 
+  fields-answered : (t : ℤ) (d : Date) → IsDay c (dayOf t) d → ofFields (fieldsAnswer c t) ≡ cond (inYears (d .year)) (fieldsGiven (fieldsAt d (timeOf t))) (noFields OutOfRange)
+  unfolding fieldsAnswer dateAnswer
+  fields-answered t d p = ap (λ (x : Date). ofFields (withTime (cond (inYears (x .year)) (DateAnswer.Is x) (DateAnswer.Refused OutOfRange)) (timeOf t))) (sym (is-date (dayOf t) d p)) ∙ go (inYears (d .year))
+    where
+      go : (b : Bool) → ofFields (withTime (cond b (DateAnswer.Is d) (DateAnswer.Refused OutOfRange)) (timeOf t)) ≡ cond b (fieldsGiven (fieldsAt d (timeOf t))) (noFields OutOfRange)
+      go true = refl
+      go false = refl
+
   pub dates : DatesByNextDay c
   dates =
       record {
         dated = λ n. (dateOf c n, dated n);
         one-date = λ n d e p q. is-date n d p ∙ sym (is-date n e q);
         date-of-day = λ n d p. date-is c n ∙ (answered n ∙ ap inYearsOnly (sym (is-date n d p)));
+        fields-of = λ t d p. fields-is c t ∙ fields-answered t d p;
         day-of-date = λ n d p h. day-is c d ∙ ap ofDay (sym (date-there c d n h (p .there) (sym (is-date n d p))));
       }
 
 -- ---- demand 2: days from a reference
+
+pub days-after : (x : Axis) → GoodReference x → x .period ≡ Period.Day → (n : ℤ) → (d : Date) × DaysFromReference x n d
+days-after x g e n =
+    let z = dayOf (x .reference) in
+    (dateOf (x .calendar) (z +ℤ n), record { good = g; days = e; there = dates-exist (x .calendar) (z +ℤ n); steps = days-there (x .calendar) z n })
 
 module _ (x : Axis) (n : ℤ) (d : Date) (h : DaysFromReference x n d) where
   abbrev c : Calendar

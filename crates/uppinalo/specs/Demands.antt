@@ -39,7 +39,7 @@ use Rattle.codes.specs.Codes.{codedCalendar, codedAxis, calendarCode, axisCode}
 use Rattle.codes.specs.declared.CodedCalendar.{CodedCalendar}
 use Rattle.codes.specs.declared.CodedAxis.{CodedAxis}
 use Rattle.codes.specs.declared.UppinaloAxis.{UppinaloAxis}
-use Rattle.uppinalo.specs.Days.{noDate, uppinaloDateOfDay, uppinaloDayOfDate, uppinaloFieldsOf}
+use Rattle.uppinalo.specs.Days.{noDate, noFields, uppinaloDateOfDay, uppinaloDayOfDate, uppinaloFieldsOf}
 use Rattle.uppinalo.specs.Offsets.{noReading, noOffset, uppinaloReadWhole, uppinaloReadDouble, uppinaloWriteInstant, uppinaloWriteFields}
 use Rattle.uppinalo.specs.Runs.{noRun, uppinaloReadWholes, uppinaloReadWholesDestination, uppinaloReadDoubles, uppinaloReadDoublesDestination}
 use Rattle.uppinalo.specs.Texts.{uppinaloReadIso, uppinaloReadUnits, uppinaloWriteIso, uppinaloWriteIsoRoom}
@@ -50,6 +50,10 @@ use Rattle.uppinalo.specs.declared.texts.UppinaloReading.{UppinaloReadin
 use Rattle.uppinalo.specs.declared.texts.UppinaloAxisAnswer.{UppinaloAxisAnswer}
 use Rattle.uppinalo.specs.declared.texts.UppinaloLengthAnswer.{UppinaloLengthAnswer}
 use Rattle.uppinalo.specs.declared.offsets.UppinaloOffsetAnswer.{UppinaloOffsetAnswer}
+
+-- the reference of an axis lies in the years -9999 to 9999
+abbrev pub GoodReference : Axis → Type 0
+GoodReference x = inRange (x .calendar) (x .reference) ≡ true
 
 -- ---- codes
 
@@ -127,12 +131,14 @@ pub record DatesByNextDay (c : Calendar) : Type 0 where
   pub one-date : (n : ℤ) (d e : Date) → IsDay c n d → IsDay c n e → d ≡ e
   -- which is given, or refused with 5 where its year lies past -9999 to 9999
   pub date-of-day : (n : ℤ) (d : Date) → IsDay c n d → uppinaloDateOfDay (calendarCode c) n ≡ cond (inYears (d .year)) (record { number = 0; date = d }) (noDate OutOfRange)
+  -- so are the fields of an instant, which are the date of its day and its time of day
+  pub fields-of : (t : ℤ) (d : Date) → IsDay c (dayOf t) d → uppinaloFieldsOf (calendarCode c) t ≡ cond (inYears (d .year)) (fieldsGiven (fieldsAt d (timeOf t))) (noFields OutOfRange)
   -- and back
   pub day-of-date : (n : ℤ) (d : Date) → IsDay c n d → inYears (d .year) ≡ true → uppinaloDayOfDate (calendarCode c) d ≡ record { number = 0; day = n }
 
--- on an axis of days, n days after the date of its reference lies d
+-- on an axis of days with a good reference, n days after the date of the reference lies d
 pub record DaysFromReference (x : Axis) (n : ℤ) (d : Date) : Type 0 where
-  pub good : inRange (x .calendar) (x .reference) ≡ true
+  pub good : GoodReference x
   pub days : x .period ≡ Period.Day
   pub there : exists (x .calendar) d ≡ true
   pub steps : DaysOn (x .calendar) (dateOf (x .calendar) (dayOf (x .reference))) n d
@@ -222,17 +228,15 @@ pub record GivenInYears : Type 0 where
   pub read-doubles : (x : Axis) (xs : List Float) (ds : List ℤ) → uppinaloReadDoubles (axisCode x) xs ds .number ≡ 0 → Each (λ (t : ℤ). inRange (x .calendar) t ≡ true) (take (length xs) (uppinaloReadDoublesDestination (axisCode x) xs ds))
   pub read-iso : (name text : List ℕ) (c : Calendar) (t : ℤ) (exact : Bool) → calendarOf name ≡ some c → uppinaloReadIso name text ≡ readAt t exact → inRange c t ≡ true
   -- an axis that is read is the codes of one whose reference is good
-  pub read-units : (name text : List ℕ) → uppinaloReadUnits name text .number ≡ 0 → (x : Axis) × (uppinaloReadUnits name text .axis ≡ axisCode x) × (inRange (x .calendar) (x .reference) ≡ true)
+  pub read-units : (name text : List ℕ) → uppinaloReadUnits name text .number ≡ 0 → (x : Axis) × (uppinaloReadUnits name text .axis ≡ axisCode x) × GoodReference x
 
 -- ---- all of them
-
-abbrev pub GoodReference : Axis → Type 0
-GoodReference x = inRange (x .calendar) (x .reference) ≡ true
 
 pub record Demands : Type 0 where
   pub codes : CodesOfAxes
   pub refusals : ZeroBesideRefusal
   pub dates : (c : Calendar) → DatesByNextDay c
+  pub days-there : (x : Axis) → GoodReference x → x .period ≡ Period.Day → (n : ℤ) → (d : Date) × DaysFromReference x n d
   pub days : (x : Axis) (n : ℤ) (d : Date) → DaysFromReference x n d → DaysRead x n d
   pub writing : (x : Axis) → GoodReference x → WritingBack x
   pub texts : (name text : List ℕ) (c : Calendar) → length text ≤ 128 → calendarOf name ≡ some c → TextsByGrammar name text
