@@ -13,14 +13,15 @@ test:     # the gate: every proof, must-fail edits, the programs and the tests f
 	bash .ci/run
 
 edits:    # the must-fail edits that the gate leaves out to stay short: those in must-fail/more/
-	mkdir -p target && rt check >target/edits.log 2>&1 || { cat target/edits.log && exit 1; }
-	rm -rf target/edits && mkdir -p target/edits/target
-	cp -R crates crates.txt target/edits && cp -R target/rlib target/stamp target/log target/obj target/edits/target
-	for crate in target/edits/crates/*; do \
+	@echo "edits: first every proof, where it is not current, then $$(ls crates/*/must-fail/more/*.edit | wc -l) edits, each a check of its crate"
+	@rt check
+	@rm -rf target/edits && mkdir -p target/edits/target
+	@cp -R crates crates.txt target/edits && cp -R target/rlib target/stamp target/log target/obj target/edits/target
+	@for crate in target/edits/crates/*; do \
 		rm -f $$crate/must-fail/*.edit; \
 		[ ! -d $$crate/must-fail/more ] || mv $$crate/must-fail/more/*.edit $$crate/must-fail; \
 	done
-	cd target/edits && rt must-fail
+	@cd target/edits && rt must-fail
 
 lib:      # the archive and the shared object of include/uppinalo.h
 	rt staticlib uppinalo

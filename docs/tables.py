@@ -2,10 +2,13 @@
 """Writes the tables of docs/TRUST.md and docs/ARCHITECTURE.md from the crates' own files.
 
     make docs                  writes them
-    docs/tables.py --check     says which are not current, and changes nothing
+    docs/tables.py --check     changes nothing
 
-What a reader must believe is found by following imports: from the contracts of the crate `uppinalo` and of the programs over it
-to the files of specs/ that they cite, and from those on.
+Both print each table that is not current (--check), each file of a crate that a document names and that is not there, and each arrow of the
+picture in docs/ARCHITECTURE.md that crates.txt does not have. The exit status is 1 where there is one.
+
+What a reader must believe is found from the public calls: the names that their contracts cite lead by the lines `ghost use` to files of
+specs/, and imports lead on from those. So they do from the files that state the demands and the cases by hand.
 """
 import pathlib
 import re
@@ -13,9 +16,12 @@ import sys
 
 ROOT = pathlib.Path(__file__).resolve().parent.parent
 CRATES = ROOT / "crates"
-TOPS = ["uppinalo", "listing_line", "listing", "cases"]
-CITED = re.compile(r"^(?:ghost )?use Rattle·(\w+)(?:·specs|·proofs)?\.(specs|proofs)\.([\w.]+?)\.?\{", re.MULTILINE)
-KIT = re.compile(r"^(?:ghost )?use ((?:lib|mathlib|Prim)\.[\w.]+?)\.\{", re.MULTILINE)
+DOCUMENTS = ["docs/TRUST.md", "docs/ARCHITECTURE.md", "docs/DECISIONS.md", "README.md"]
+# the crates with public calls, and how such a call begins
+PUBLIC = {"uppinalo": 'pub extern "C" fn', "listing_line": "pub fn"}
+STATED = ["uppinalo/specs/Demands.antt", "cases/specs/Cases.antt"]
+CITED = re.compile(r"^(?:ghost )?use Rattle·(\w+)(?:·specs|·proofs)?\.(specs|proofs)\.([\w.-]+?)(?:\.\{([^}]*)\}| as \w+);?$", re.MULTILINE)
+KIT = re.compile(r"^use (?!Rattle·)([\w.]+?)(?:\.\{| as )", re.MULTILINE)
 
 
 def listed():
@@ -40,22 +46,34 @@ def specs_of(crate):
 
 
 def cited_by(path):
-    """The files of specs/ and proofs/ that a file cites; types that the code declares have no file there."""
-    for crate, folder, module in CITED.findall(path.read_text()):
+    """The files of specs/ and proofs/ that a file cites, each with the names that it cites them by. Types that the code declares have no
+    file there."""
+    for crate, folder, module, cited in CITED.findall(path.read_text()):
         file = CRATES / crate / folder / (module.replace(".", "/") + ".antt")
         if file.is_file():
-            yield file
+            yield file, {name.split(" as ")[-1].strip() for name in cited.split(",")}
 
 
-def believed(crates):
-    """The files that the promises at the top rest on."""
-    waiting = [path for top in TOPS if top in crates for path in sorted((CRATES / top / "src").glob("**/*.rt"))]
+def promised(crate):
+    """The files that the contracts of a crate's public calls cite."""
+    for path in sorted((CRATES / crate / "src").glob("**/*.rt")):
+        heads = re.findall(rf"^{PUBLIC[crate]} .*?^{{$", path.read_text(), re.MULTILINE | re.DOTALL)
+        assert all("ensures" in head for head in heads), f"{path}: a public call that promises nothing"
+        contracts = " ".join(head.partition("ensures")[2] for head in heads)
+        words = set(re.split(r"[\s(){}⌜⌝.]+", contracts))
+        yield from (file for file, cited in cited_by(path) if cited & words)
+
+
+def believed():
+    """The files that the public calls rest on, and those that say what is demanded of them."""
+    waiting = [file for crate in PUBLIC for file in promised(crate)]
+    waiting += [CRATES / name for name in STATED if (CRATES / name).is_file()]
     found = set()
     while waiting:
-        for file in cited_by(waiting.pop()):
-            if file not in found:
-                found.add(file)
-                waiting.append(file)
+        file = waiting.pop()
+        if file not in found:
+            found.add(file)
+            waiting += [cited for cited, _ in cited_by(file)]
     return found
 
 
@@ -68,7 +86,7 @@ def names(paths):
 
 
 def trust(crates):
-    needed = believed(crates)
+    needed = believed()
     assert all("specs" in path.parts for path in needed), "a promise cites a file of proofs/"
     specs = [path for crate in crates for path in specs_of(crate)]
     rows = [[f"`{path.relative_to(CRATES)}`", first_sentence(path, "--")] for path in specs if path in needed]
@@ -91,36 +109,42 @@ def architecture(crates):
     return table(["crate", "what it is", "knows"], rows)
 
 
-def missing_files(text):
-    """The files of crates that a document names and that are not there."""
-    named = re.findall(r"`((?:crates/)?\w+/(?:src|specs|proofs)/[\w/]+\.(?:antt|rt))`", text)
-    return [name for name in named if not (CRATES / name.removeprefix("crates/")).is_file()]
+def missing_files(document):
+    """The files of crates that a document names, by the end of their path or the whole of it, and that are not there."""
+    there = [f"/{path.relative_to(ROOT)}" for path in [*CRATES.glob("**/*.antt"), *CRATES.glob("**/*.rt")]]
+    for name in re.findall(r"`([\w/]+\.(?:antt|rt))`", (ROOT / document).read_text()):
+        # docs/DECISIONS.md also speaks of file names that cannot be had
+        is_tested = "/" in name or document != "docs/DECISIONS.md"
+        if is_tested and not any(path.endswith(f"/{name}") for path in there):
+            yield name
 
 
-def wrong_arrows(text, crates):
-    """The arrows of the picture that crates.txt does not have. A crate that is not listed yet has none."""
-    for line in re.findall(r"(?s)```text\n(.*?)```", text)[0].splitlines():
+def wrong_arrows(crates):
+    """The arrows of the picture that crates.txt does not have."""
+    for line in re.findall(r"(?s)```text\n(.*?)```", (ROOT / "docs/ARCHITECTURE.md").read_text())[0].splitlines():
         for chain in re.split(r"\s{2,}", line):
             ends = [part.split(", ") for part in chain.split(" → ")]
             for lefts, rights in zip(ends, ends[1:]):
-                yield from (f"{a} → {b}" for a in lefts for b in rights if a in crates and b in crates and b not in crates[a])
+                yield from (f"{a} → {b}" for a in lefts for b in rights if b not in crates.get(a, []))
 
 
 def main():
     crates = listed()
     is_check = sys.argv[1:] == ["--check"]
-    for name, make in [("TRUST", trust), ("ARCHITECTURE", architecture)]:
-        path = ROOT / "docs" / f"{name}.md"
+    faults = []
+    for document, make in [("docs/TRUST.md", trust), ("docs/ARCHITECTURE.md", architecture)]:
+        path = ROOT / document
         before, _, after = re.split(r"(?s)(?<=<!-- crates: begin -->\n)(.*)(?=<!-- crates: end -->)", path.read_text())
         text = before + make(crates) + after
-        if text != path.read_text() and is_check:
-            print(f"docs/{name}.md: its table is not current: make docs")
-        elif not is_check:
+        if not is_check:
             path.write_text(text)
-        for file in missing_files(text):
-            print(f"docs/{name}.md: no such file: {file}")
-        for arrow in wrong_arrows(text, crates) if name == "ARCHITECTURE" else []:
-            print(f"docs/{name}.md: no such arrow in crates.txt: {arrow}")
+        elif text != path.read_text():
+            faults.append(f"{document}: its table is not current: make docs")
+    faults += [f"{document}: no such file: {name}" for document in DOCUMENTS for name in missing_files(document)]
+    faults += [f"docs/ARCHITECTURE.md: no such arrow in crates.txt: {arrow}" for arrow in wrong_arrows(crates)]
+    for fault in faults:
+        print(fault)
+    sys.exit(1 if faults else 0)
 
 
 main()

@@ -1,4 +1,4 @@
-"""Runs in NumPy arrays. Skipped where NumPy is not installed; `make peers` has it."""
+"""Runs in NumPy arrays, skipped where there is no NumPy; and that there is one, or none, as the run of the tests asks."""
 
 import array
 import datetime
@@ -7,6 +7,7 @@ import unittest
 from uppinalo import Axis, Refused, fields_of, write_iso
 from uppinalo._runs import lendable
 
+from . import NUMPY
 from .calls import needs
 
 try:
@@ -20,6 +21,18 @@ BOTH = ("read_units", "read_wholes", "read_doubles")
 
 def days(calendar="proleptic_gregorian"):
     return Axis("days since 1970-01-01", calendar=calendar)
+
+
+class Presence(unittest.TestCase):
+    def test_numpy_is_there_as_asked(self):
+        self.assertIn(NUMPY, (None, "yes" if numpy else "no"), "the tests with NumPy run just where it is asked for")
+
+    @needs(*BOTH)
+    def test_only_datetime64_needs_it(self):
+        run = days().read_run([0, 1])
+        self.assertEqual(run.instants, array.array("q", [0, DAY]))
+        if numpy is None:
+            self.assertRaises(ImportError, run.datetime64)
 
 
 @unittest.skipIf(numpy is None, "NumPy is not installed")
