@@ -18,7 +18,8 @@ use Rattle.double.specs.Whole.{wholeOf}
 use Rattle.double.specs.declared.whole.Whole.{Whole}
 use Rattle.axis.specs.Axis.{readDoubleOn, readWholeOn}
 use Rattle.axis.proofs.Demands.{whole-between, double-between, whole-double}
-use Rattle.run_ends.specs.Ends.{Each, allPass, isNumber, zeroDouble, doubleEnds, endsBy, isWhole, wholeNumber, wholeDoubleEnds}
+use Rattle.run_ends.specs.Each.{Each}
+use Rattle.run_ends.specs.Ends.{allPass, isNumber, zeroDouble, doubleEnds, endsBy, isWhole, wholeNumber, wholeDoubleEnds}
 use Rattle.run_ends.specs.declared.ends.DoubleEnds.{DoubleEnds}
 use Rattle.run_ends.specs.declared.ends.WholeEnds.{WholeEnds}
 use Rattle.run_ends.specs.declared.ends.WholeDoubleEnds.{WholeDoubleEnds}

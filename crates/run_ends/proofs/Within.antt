@@ -7,7 +7,8 @@ use lib.IntN.{ℤ}
 use lib.Signed.{ltZ, leZ}
 use lib.Ieee.{Float, lt, le, ne}
 use Rattle.signed.proofs.Order.{le-refl, le-of-lt, lt-not-le, le-trans}
-use Rattle.run_ends.specs.Ends.{lesser, leastFrom, greatestFrom, Each, allPass, isNumber}
+use Rattle.run_ends.specs.Each.{Each}
+use Rattle.run_ends.specs.Ends.{lesser, leastFrom, greatestFrom, allPass, isNumber}
 use Rattle.run_ends.proofs.Floats.{float-trans, float-refl, float-before, float-behind}
 
 -- an order of the B that are comparable

@@ -1,7 +1,6 @@
 -- The ends of a run of offsets: the least and the greatest of them and zero, by comparing alone. Zero is counted in, so an empty run has ends too.
 use mathlib.Core.Bool.{Bool, true, false, not, cond}
 use mathlib.Core.List.{List, [], _∷_}
-use lib.Dec.{T}
 use lib.IntN.{ℤ, pos}
 use lib.Signed.{ltZ}
 use lib.Ieee.{Float, fin, lt, ne}
@@ -29,11 +28,6 @@ module _ {A B : Type 0} (number : A → B) (before : B → B → Bool) where
 
 abbrev pub greatestFrom : {A B : Type 0} → (A → B) → (B → B → Bool) → B → List A → B
 greatestFrom {A} {B} number before = leastFrom number (λ (x y : B). before y x)
-
--- P holds of each offset of a run
-abbrev pub Each : {A : Type 0} → (A → Type 0) → List A → Type 0
-Each P [] = T true
-Each P (x ∷ xs) = P x × Each P xs
 
 -- whether a test passes for each offset of a run
 unfoldable pub allPass : {A : Type 0} → (A → Bool) → List A → Bool

@@ -5,7 +5,7 @@ ghost use mathlib.Core.Bool.{true, _&&_};
 ghost use Rattle.axis_types.specs.declared.Mode.{Mode};
 ghost use Rattle.axis_types.specs.Reading.{isRead};
 ghost use Rattle.axis.specs.Axis.{readDoubleOn, readWholeOn};
-ghost use Rattle.run_ends.specs.Ends.{Each};
+ghost use Rattle.run_ends.specs.Each.{Each};
 use crate::ends::DoubleEnds;
 use crate::ends::WholeDoubleEnds;
 use crate::ends::WholeEnds;

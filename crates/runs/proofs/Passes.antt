@@ -21,7 +21,7 @@ use Rattle.axis_types.specs.declared.Reading.{Reading}
 use Rattle.axis_types.proofs.Answers.{was-read}
 use Rattle.axis.specs.Axis.{onGood}
 use Rattle.axis.specs.declared.AxisCheck.{AxisCheck}
-use Rattle.run_ends.specs.Ends.{Each}
+use Rattle.run_ends.specs.Each.{Each}
 use Rattle.runs.specs.declared.Check.{Check}
 use Rattle.runs.specs.declared.RunAnswer.{RunAnswer}
 use Rattle.runs.specs.Run.{markOf, after, checked, roundedCount, overlaid, checkedFirst, checkAnswer, chosen}

@@ -17,7 +17,7 @@ use Rattle.axis.specs.Axis.{axisCheck, onGood, readWholeOn, readDoubleOn, write
 use Rattle.axis.specs.declared.AxisCheck.{AxisCheck}
 use Rattle.axis.proofs.Laws.{good-in, past-out}
 use Rattle.axis.proofs.Demands as Axes
-use Rattle.run_ends.specs.Ends.{Each}
+use Rattle.run_ends.specs.Each.{Each}
 use Rattle.runs.specs.Run.{checked, roundedCount, overlaid, markOf, checkedFirst, runCheck, checkAnswer, runAnswer, chosen, runWritten}
 use Rattle.runs.specs.declared.Check.{Check}
 use Rattle.runs.proofs.Passes.{each-read, first-refused}

@@ -19,7 +19,7 @@ use Rattle.axis_types.proofs.Answers.{was-read}
 use Rattle.axis.specs.Axis.{axisCheck, readWholeOn, readDoubleOn, readOffset}
 use Rattle.axis.specs.declared.AxisCheck.{AxisCheck}
 use Rattle.axis.proofs.Demands as Axes
-use Rattle.run_ends.specs.Ends.{Each}
+use Rattle.run_ends.specs.Each.{Each}
 use Rattle.runs.specs.Run.{checked, roundedCount, overlaid, runCheck, checkAnswer, runAnswer, chosen, runWritten}
 use Rattle.runs.specs.declared.Check.{Check}
 use Rattle.runs.proofs.Passes.{each-checked, passed}

@@ -27,7 +27,7 @@ use Rattle.axis_types.specs.declared.Mode.{Mode}
 use Rattle.axis_types.specs.declared.Axis.{Axis}
 use Rattle.double.specs.Nearest.{IsNearest}
 use Rattle.fixed_axis.specs.Demands.{Demand3, InOrder}
-use Rattle.run_ends.specs.Ends.{Each}
+use Rattle.run_ends.specs.Each.{Each}
 use Rattle.runs.specs.declared.RunAnswer.{RunAnswer}
 use Rattle.calendar_name.specs.Names.{calendarOf}
 use Rattle.grammar.specs.Grammar.{Derives}
