@@ -7,6 +7,7 @@
 --   whole-between   a whole offset between two that are read is read
 --   double-between  and in fixed mode a double
 --   fields-written  fields are written as their instant is
+--   fields-refused  and refused as it is
 --   inexact-none    Inexact only where no offset reads as the instant
 --   days-read       on an axis of days a whole offset is read as crate `fixed_axis` reads it, in either mode
 --   moved           in calendar mode the date of the instant is that of the reference, moved at once by all the steps, and the time of day is kept
@@ -156,6 +157,10 @@ module _ (a : Axis) where
   pub fields-written : (f : Fields) (t : ℤ) → instantAnswer (a .calendar) f ≡ InstantAnswer.Is t → inRange (a .calendar) t ≡ true → writeFieldsOn a f ≡ writeInstantOn a t
   unfolding writeFieldsOn writeInstantOn
   fields-written f t e h = λ i. onGood (axisCheck a) OffsetAnswer.Refused ((ap (λ (q : InstantAnswer). onInstant q (offsetOn a)) e ∙ ap (λ (b : Bool). cond b (offsetOn a t) (OffsetAnswer.Refused OutOfRange)) (sym h)) i)
+
+  pub fields-refused : AxisCheck.Good ≡ axisCheck a → (f : Fields) (r : Refusal) → instantAnswer (a .calendar) f ≡ InstantAnswer.Refused r → writeFieldsOn a f ≡ OffsetAnswer.Refused r
+  unfolding writeFieldsOn
+  fields-refused g f r e = λ i. onGood (sym g i) OffsetAnswer.Refused (onInstant (e i) (offsetOn a))
 
   pub whole-between : (x y z t u : ℤ) (i j : Bool) → leZ x y ≡ true → leZ y z ≡ true → readWholeOn a x ≡ Reading.At t i → readWholeOn a z ≡ Reading.At u j → (v : ℤ) × (readWholeOn a y ≡ Reading.At v true)
   whole-between x y z t u i j h g f e = reading (whole-good x t i f) .between x y z t u i j h g f e

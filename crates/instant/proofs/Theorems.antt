@@ -11,9 +11,9 @@ use Rattle.refusal.specs.declared.Refusal.the-variants.{NoSuchDate, OutOfRange}
 use Rattle.signed.proofs.Tests.{test-is}
 use Rattle.signed.proofs.Differences.{Common, common, by-sign, sub-low, sub-high, sub-lt, sub-inj, neg-plus, times-plus}
 use Rattle.signed.proofs.Lexicographic.{lexicographic}
-use Rattle.calendar.specs.Calendar.{dateOf, inYears}
+use Rattle.calendar.specs.Calendar.{dateOf, exists, inYears}
 use Rattle.calendar.specs.Order.{earlier, sameDate}
-use Rattle.calendar.specs.Answers.{dayAnswer}
+use Rattle.calendar.specs.Answers.{dayNumber, dayAnswer}
 use Rattle.calendar.specs.declared.Calendar.{Calendar}
 use Rattle.calendar.specs.declared.Date.{Date}
 use Rattle.calendar.specs.declared.DateAnswer.{DateAnswer}
@@ -127,6 +127,20 @@ module _ (c : Calendar) (f : Fields) (t : ℤ) where
           let k : InstantAnswer.Refused NoSuchDate ≡ InstantAnswer.Is t = ap (λ (b : Bool). cond b (InstantAnswer.Is (n *ℤ pos 86400000000 +ℤ pos (clockTime f))) (InstantAnswer.Refused NoSuchDate)) (sym g) ∙ h in
           absurd (let y : _≡_ {A = ℕ} 0 1 = (cc) in omega arith)
       go (DayAnswer.Refused r) b e g h = absurd (let y : _≡_ {A = ℕ} 0 1 = (cc) in omega arith)
+
+-- fields are refused for the year first, then where there are none such
+module _ (c : Calendar) (f : Fields) where
+  pub fields-past : inYears (f .year) ≡ false → instantAnswer c f ≡ InstantAnswer.Refused OutOfRange
+  unfolding instantAnswer dayAnswer
+  fields-past h = rw h
+
+  pub fields-missing : inYears (f .year) ≡ true → (exists c (dateIn f) && isClock f) ≡ false → instantAnswer c f ≡ InstantAnswer.Refused NoSuchDate
+  unfolding instantAnswer dayAnswer
+  fields-missing h k = rw h (go (exists c (dateIn f)) k)
+    where
+      go : (b : Bool) → (b && isClock f) ≡ false → withClock (cond b (DayAnswer.Is (dayNumber c (dateIn f))) (DayAnswer.Refused NoSuchDate)) f ≡ InstantAnswer.Refused NoSuchDate
+      go true e = rw e
+      go false e = refl
 
 -- ---- there and back
 

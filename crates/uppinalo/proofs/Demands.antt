@@ -1,10 +1,11 @@
 -- The demands of specs/Demands.antt, all of them. Each part is proved in a file of its own, from the theorems of the crates below.
 use Rattle.codes.proofs.Back.{calendar-back, axis-back, calendar-known, axis-known}
 use Rattle.uppinalo.specs.Demands.{Demands}
+use Rattle.uppinalo.proofs.Unnamed.{other-codes, other-calendar}
 use Rattle.uppinalo.proofs.Zeros.{refusals}
 use Rattle.uppinalo.proofs.NextDay.{dates, days-after, days}
 use Rattle.uppinalo.proofs.Writings.{writing}
-use Rattle.uppinalo.proofs.Derived.{texts}
+use Rattle.uppinalo.proofs.Derived.{texts, before-texts}
 use Rattle.uppinalo.proofs.Doubles.{doubles}
 use Rattle.uppinalo.proofs.Alone.{runs, past-reference}
 use Rattle.uppinalo.proofs.Range.{in-years}
@@ -13,12 +14,15 @@ pub demands : Demands
 demands =
     record {
       codes = record { taken-back = axis-back; calendar-back = calendar-back; only-codes = axis-known; only-calendar = calendar-known };
+      other-codes = other-codes;
+      other-calendar = other-calendar;
       refusals = refusals;
       dates = dates;
       days-there = days-after;
       days = days;
       writing = writing;
       texts = texts;
+      before-texts = before-texts;
       doubles = doubles;
       runs = runs;
       past-reference = past-reference;

@@ -1,4 +1,5 @@
 pub mod Boundary
+pub mod Unnamed
 pub mod Zeros
 pub mod NextDay
 pub mod Writings

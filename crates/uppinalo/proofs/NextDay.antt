@@ -8,7 +8,7 @@ use Rattle.calendar.specs.Answers.{dateAnswer}
 use Rattle.calendar.specs.declared.Calendar.{Calendar}
 use Rattle.calendar.specs.declared.Date.{Date}
 use Rattle.calendar.specs.declared.DateAnswer.{DateAnswer}
-use Rattle.calendar.proofs.Answering.{date-there}
+use Rattle.calendar.proofs.Answering.{year-out, date-missing, date-there}
 use Rattle.calendar.proofs.Theorems.{dates-exist, days-there, days-only}
 use Rattle.instant.specs.Instant.{dayOf, timeOf, inRange, fieldsAt, withTime, fieldsAnswer}
 use Rattle.instant.proofs.Theorems.{fields-in}
@@ -62,21 +62,24 @@ module _ (c : Calendar) where
   pub dates : DatesByNextDay c
   dates =
       record {
-        dated = λ n. (dateOf c n, dated n);
+        dated = dated;
         one-date = λ n d e p q. is-date n d p ∙ sym (is-date n e q);
         date-of-day = λ n d p. date-is c n ∙ (answered n ∙ ap inYearsOnly (sym (is-date n d p)));
         fields-of = λ t d p. fields-is c t ∙ fields-answered t d p;
         day-of-date = λ n d p h. day-is c d ∙ ap ofDay (sym (date-there c d n h (p .there) (sym (is-date n d p))));
+        year-past = λ x h. day-is c x ∙ ap ofDay (sym (year-out c x h));
+        no-date = λ x h g. day-is c x ∙ ap ofDay (sym (date-missing c x h g));
       }
 
 -- ---- demand 2: days from a reference
 
-pub days-after : (x : Axis) → GoodReference x → x .period ≡ Period.Day → (n : ℤ) → (d : Date) × DaysFromReference x n d
+pub days-after : (x : Axis) → GoodReference x → x .period ≡ Period.Day → (n : ℤ) → (r : Date) × (d : Date) × DaysFromReference x n r d
 days-after x g e n =
+    let c = x .calendar in
     let z = dayOf (x .reference) in
-    (dateOf (x .calendar) (z +ℤ n), record { good = g; days = e; there = dates-exist (x .calendar) (z +ℤ n); steps = days-there (x .calendar) z n })
+    (dateOf c z, dateOf c (z +ℤ n), record { good = g; days = e; from = dated c z; there = dates-exist c (z +ℤ n); steps = days-there c z n })
 
-module _ (x : Axis) (n : ℤ) (d : Date) (h : DaysFromReference x n d) where
+module _ (x : Axis) (n : ℤ) (r d : Date) (h : DaysFromReference x n r d) where
   abbrev c : Calendar
   c = x .calendar
 
@@ -84,7 +87,10 @@ module _ (x : Axis) (n : ℤ) (d : Date) (h : DaysFromReference x n d) where
   t = timeAfter Period.Day (x .reference) n
 
   date-of-time : dateOf c (dayOf t) ≡ d
-  date-of-time = ap (dateOf c) (day-after (x .reference) n) ∙ sym (days-only c (dayOf (x .reference)) n d (h .there) (h .steps))
+  date-of-time =
+      let z = dayOf (x .reference) in
+      let s = subst (λ (y : Date). DaysOn c y n d) (is-date c z r (h .from)) (h .steps) in
+      ap (dateOf c) (day-after (x .reference) n) ∙ sym (days-only c z n d (h .there) s)
 
   by-days : uppinaloReadWhole (axisCode x) n ≡ ofReading (readWhole c Period.Day (x .reference) n)
   by-days = read-is x (λ (a : Axis). readWholeOn a n) ∙ ap ofReading (Axes.days-read x (good-in x (h .good)) (h .days) n)

@@ -7,13 +7,14 @@ use lib.IntN.{ℤ}
 use mir.Syntax.{w64}
 use mir.Val.{SFits}
 use Rattle.refusal.specs.Number.{numberOf}
-use Rattle.refusal.specs.declared.Refusal.the-variants.{Inexact}
+use Rattle.refusal.specs.declared.Refusal.{Refusal}
+use Rattle.refusal.specs.declared.Refusal.the-variants.{NoSuchDate, OutOfRange, Inexact}
 use Rattle.calendar.specs.Answers.{dayNumber, dayAnswer}
 use Rattle.instant.specs.Instant.{instantAt, inRange, fieldsAnswer, dateIn, clockTime, instantAnswer}
 use Rattle.instant.specs.declared.Fields.{Fields}
 use Rattle.instant.specs.declared.FieldsAnswer.{FieldsAnswer}
 use Rattle.instant.specs.declared.InstantAnswer.{InstantAnswer}
-use Rattle.instant.proofs.Theorems.{shown, fields-of-instant}
+use Rattle.instant.proofs.Theorems.{shown, fields-past, fields-missing, fields-of-instant}
 use Rattle.axis_types.specs.declared.Axis.{Axis}
 use Rattle.axis_types.specs.declared.Reading.{Reading}
 use Rattle.axis_types.specs.declared.OffsetAnswer.{OffsetAnswer}
@@ -22,7 +23,7 @@ use Rattle.axis.proofs.Laws.{good-in}
 use Rattle.axis.proofs.Demands as Axes
 use Rattle.codes.specs.Codes.{axisCode}
 use Rattle.uppinalo.specs.Days.{ofFields}
-use Rattle.uppinalo.specs.Offsets.{ofReading, ofOffset, uppinaloReadWhole, uppinaloWriteInstant, uppinaloWriteFields}
+use Rattle.uppinalo.specs.Offsets.{ofReading, noOffset, ofOffset, uppinaloReadWhole, uppinaloWriteInstant, uppinaloWriteFields}
 use Rattle.uppinalo.specs.Demands.{readAt, WritesExactly, HasFields, WritingBack, GoodReference}
 use Rattle.uppinalo.proofs.Boundary.{read-is, write-is, fields-is, reading-at}
 
@@ -66,5 +67,16 @@ module _ (x : Axis) (g : GoodReference x) where
         let i = shown (x .calendar) at f fields-at .inside in
         subst (WritesExactly x at) (sym (write-is x (λ (a : Axis). writeFieldsOn a f) ∙ ap ofOffset (Axes.fields-written x f at has i))) (exactly at i (writeInstantOn x at) refl)
 
+  -- fields that are refused are refused so when they are written
+  refused-fields : (f : Fields) (r : Refusal) → instantAnswer (x .calendar) f ≡ InstantAnswer.Refused r → uppinaloWriteFields (axisCode x) f ≡ noOffset r
+  refused-fields f r e = write-is x (λ (a : Axis). writeFieldsOn a f) ∙ ap ofOffset (Axes.fields-refused x (good-in x g) f r e)
+
   pub writing : WritingBack x
-  writing = record { instant = instant-written; fields = λ f h. (at f h, fields-is (x .calendar) (at f h) ∙ ap ofFields (fields-at f h), fields-written f h) }
+  writing =
+      record {
+        instant = instant-written;
+        instant-past = λ t h. write-is x (λ (a : Axis). writeInstantOn a t) ∙ ap ofOffset (Axes.writing x (good-in x g) .instant-past t h);
+        fields = λ f h. (at f h, fields-is (x .calendar) (at f h) ∙ ap ofFields (fields-at f h), fields-written f h);
+        year-past = λ f h. refused-fields f OutOfRange (fields-past (x .calendar) f h);
+        no-fields = λ f h k. refused-fields f NoSuchDate (fields-missing (x .calendar) f h k);
+      }

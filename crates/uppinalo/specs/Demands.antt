@@ -1,12 +1,12 @@
 -- The three demands, stated of the calls of include/uppinalo.h: of what each call promises (the definitions that have a call's name in the
 -- other files of this folder), whatever it is handed. The last record, `Demands`, has them all; proofs/Demands.antt proves it.
 -- An axis crosses the boundary by its codes: `axisCode x` is what a caller hands in for the axis x, and `calendarCode c` for the calendar c.
--- `CodesOfAxes` says that these codes name it, and that no others do.
+-- `CodesOfAxes` says that these codes name it, and that no others do; `OtherCodes` what calls with codes that name nothing answer.
 use mathlib.Core.Path.{_≡_}
-use mathlib.Core.Bool.{Bool, true, false, cond}
+use mathlib.Core.Bool.{Bool, true, false, _&&_, cond}
 use mathlib.Core.List.{List, [], _∷_, _++_, map}
 use mathlib.Core.Logic.{_↔_}
-use mathlib.Core.Option.{some}
+use mathlib.Core.Option.{none, some}
 use Prim.Native.Nat.{ℕ, _+_, _≤_, _<_}
 use lib.Dec.{T}
 use lib.IntN.{ℤ, pos}
@@ -15,12 +15,13 @@ use lib.Ieee.{Float, nan, inf, fin, le}
 use mir.Syntax.{w64}
 use mir.Val.{SFits}
 use Rattle.refusal.specs.declared.Refusal.{Refusal}
-use Rattle.refusal.specs.declared.Refusal.the-variants.{OutOfRange, NotFinite, NoRoom}
+use Rattle.refusal.specs.declared.Refusal.the-variants.{TextTooLong, UnknownCalendar, IllFormed, NoSuchDate, OutOfRange, NoRoom, NotFinite}
 use Rattle.calendar.specs.Calendar.{date, epoch, exists, DaysOn, dateOf, inYears}
 use Rattle.calendar.specs.declared.Calendar.{Calendar}
 use Rattle.calendar.specs.declared.Date.{Date}
 use Rattle.instant.specs.Instant.{dayOf, timeOf, inRange, fieldsAt, dateIn, isClock}
 use Rattle.instant.specs.declared.Fields.{Fields}
+use Rattle.instant.specs.declared.InstantAnswer.{InstantAnswer}
 use Rattle.axis_types.specs.Lengths.{lengthOf}
 use Rattle.axis_types.specs.declared.Period.{Period}
 use Rattle.axis_types.specs.declared.Mode.{Mode}
@@ -35,14 +36,17 @@ use Rattle.date_text.specs.DateRule.{dateRule}
 use Rattle.date_text.specs.declared.WrittenDate.{WrittenDate}
 use Rattle.units_text.specs.UnitsRule.{units}
 use Rattle.units_text.specs.declared.Units.{Units}
+use Rattle.written_instant.specs.Instants.{writtenInstant}
+use Rattle.axis_text.specs.Units.{axisOf}
+use Rattle.axis_text.specs.declared.AxisAnswer.{AxisAnswer}
 use Rattle.codes.specs.Codes.{codedCalendar, codedAxis, calendarCode, axisCode}
 use Rattle.codes.specs.declared.CodedCalendar.{CodedCalendar}
 use Rattle.codes.specs.declared.CodedAxis.{CodedAxis}
 use Rattle.codes.specs.declared.UppinaloAxis.{UppinaloAxis}
-use Rattle.uppinalo.specs.Days.{noDate, noFields, uppinaloDateOfDay, uppinaloDayOfDate, uppinaloFieldsOf}
+use Rattle.uppinalo.specs.Days.{noDate, noDay, noFields, uppinaloDateOfDay, uppinaloDayOfDate, uppinaloFieldsOf}
 use Rattle.uppinalo.specs.Offsets.{noReading, noOffset, uppinaloReadWhole, uppinaloReadDouble, uppinaloWriteInstant, uppinaloWriteFields}
 use Rattle.uppinalo.specs.Runs.{noRun, uppinaloReadWholes, uppinaloReadWholesDestination, uppinaloReadDoubles, uppinaloReadDoublesDestination}
-use Rattle.uppinalo.specs.Texts.{uppinaloReadIso, uppinaloReadUnits, uppinaloWriteIso, uppinaloWriteIsoRoom}
+use Rattle.uppinalo.specs.Texts.{ofInstant, ofAxis, noLength, uppinaloReadIso, uppinaloReadUnits, uppinaloWriteIso, uppinaloWriteIsoRoom}
 use Rattle.uppinalo.specs.declared.days.UppinaloDateAnswer.{UppinaloDateAnswer}
 use Rattle.uppinalo.specs.declared.days.UppinaloDayAnswer.{UppinaloDayAnswer}
 use Rattle.uppinalo.specs.declared.days.UppinaloFieldsAnswer.{UppinaloFieldsAnswer}
@@ -64,6 +68,24 @@ pub record CodesOfAxes : Type 0 where
   -- and no other codes do
   pub only-codes : (a : UppinaloAxis) (x : Axis) → codedAxis a ≡ CodedAxis.Is x → axisCode x ≡ a
   pub only-calendar : (n : ℕ) (c : Calendar) → codedCalendar n ≡ CodedCalendar.Is c → calendarCode c ≡ n
+
+-- codes that name no axis, where the refusal is r: 2 for the calendar, then 3 for the period or the mode
+pub record OtherCodes (a : UppinaloAxis) (r : Refusal) : Type 0 where
+  pub calendar-first : codedCalendar (a .calendar) ≡ CodedCalendar.Unknown → r ≡ UnknownCalendar
+  pub then-the-rest : (c : Calendar) → codedCalendar (a .calendar) ≡ CodedCalendar.Is c → r ≡ IllFormed
+  pub read-whole : (n : ℤ) → uppinaloReadWhole a n ≡ noReading r
+  pub read-double : (y : Float) → uppinaloReadDouble a y ≡ noReading r
+  pub write-instant : (t : ℤ) → uppinaloWriteInstant a t ≡ noOffset r
+  pub write-fields : (f : Fields) → uppinaloWriteFields a f ≡ noOffset r
+  pub read-wholes : (xs ds : List ℤ) → uppinaloReadWholes a xs ds ≡ noRun r
+  pub read-doubles : (xs : List Float) (ds : List ℤ) → uppinaloReadDoubles a xs ds ≡ noRun r
+
+-- a code that names no calendar is 2
+pub record OtherCalendar (calendar : ℕ) : Type 0 where
+  pub date-of-day : (n : ℤ) → uppinaloDateOfDay calendar n ≡ noDate UnknownCalendar
+  pub day-of-date : (x : Date) → uppinaloDayOfDate calendar x ≡ noDay UnknownCalendar
+  pub fields-of : (t : ℤ) → uppinaloFieldsOf calendar t ≡ noFields UnknownCalendar
+  pub write-iso : (t : ℤ) (room : List ℕ) → uppinaloWriteIso calendar t room ≡ noLength UnknownCalendar
 
 -- ---- demand 1: a refused answer has zeros beside its number, and what was lent to be written is as it was
 
@@ -93,7 +115,7 @@ AxisOrZero a = IsRefused (a .number) → a .axis ≡ record { calendar = 0; peri
 abbrev pub LengthOrZero : UppinaloLengthAnswer → List ℕ → List ℕ → Type 0
 LengthOrZero a before after = IsRefused (a .number) → (a .length ≡ 0) × (after ≡ before)
 
--- and the destination is kept; the place is that of the refused offset
+-- and the destination is kept; of the place speaks `RunByOffsets`
 abbrev pub RunOrZero : RunAnswer → List ℤ → List ℤ → Type 0
 RunOrZero a before after = IsRefused (a .number) → (a .length ≡ 0) × (a .rounded ≡ 0) × (after ≡ before)
 
@@ -126,22 +148,25 @@ pub record IsDay (c : Calendar) (n : ℤ) (d : Date) : Type 0 where
   pub steps : DaysOn c epoch n d
 
 pub record DatesByNextDay (c : Calendar) : Type 0 where
-  -- each day number has one date
-  pub dated : (n : ℤ) → (d : Date) × IsDay c n d
+  -- each day number has one date, which is `dateOf`: so ranges and orders, which are stated with `dateOf`, are of these dates
+  pub dated : (n : ℤ) → IsDay c n (dateOf c n)
   pub one-date : (n : ℤ) (d e : Date) → IsDay c n d → IsDay c n e → d ≡ e
   -- which is given, or refused with 5 where its year lies past -9999 to 9999
   pub date-of-day : (n : ℤ) (d : Date) → IsDay c n d → uppinaloDateOfDay (calendarCode c) n ≡ cond (inYears (d .year)) (record { number = 0; date = d }) (noDate OutOfRange)
   -- so are the fields of an instant, which are the date of its day and its time of day
   pub fields-of : (t : ℤ) (d : Date) → IsDay c (dayOf t) d → uppinaloFieldsOf (calendarCode c) t ≡ cond (inYears (d .year)) (fieldsGiven (fieldsAt d (timeOf t))) (noFields OutOfRange)
-  -- and back
+  -- and back; a date is refused for its year first, then where the calendar has none such
   pub day-of-date : (n : ℤ) (d : Date) → IsDay c n d → inYears (d .year) ≡ true → uppinaloDayOfDate (calendarCode c) d ≡ record { number = 0; day = n }
+  pub year-past : (x : Date) → inYears (x .year) ≡ false → uppinaloDayOfDate (calendarCode c) x ≡ noDay OutOfRange
+  pub no-date : (x : Date) → inYears (x .year) ≡ true → exists c x ≡ false → uppinaloDayOfDate (calendarCode c) x ≡ noDay NoSuchDate
 
--- on an axis of days with a good reference, n days after the date of the reference lies d
-pub record DaysFromReference (x : Axis) (n : ℤ) (d : Date) : Type 0 where
+-- on an axis of days with a good reference, whose date is r, d lies n days after r
+pub record DaysFromReference (x : Axis) (n : ℤ) (r d : Date) : Type 0 where
   pub good : GoodReference x
   pub days : x .period ≡ Period.Day
+  pub from : IsDay (x .calendar) (dayOf (x .reference)) r
   pub there : exists (x .calendar) d ≡ true
-  pub steps : DaysOn (x .calendar) (dateOf (x .calendar) (dayOf (x .reference))) n d
+  pub steps : DaysOn (x .calendar) r n d
 
 pub record DaysRead (x : Axis) (n : ℤ) (d : Date) : Type 0 where
   -- in the years, the instant that is read has the date d and the reference's time of day
@@ -163,14 +188,29 @@ pub record HasFields (c : Calendar) (f : Fields) : Type 0 where
 
 pub record WritingBack (x : Axis) : Type 0 where
   pub instant : (t : ℤ) → inRange (x .calendar) t ≡ true → WritesExactly x t (uppinaloWriteInstant (axisCode x) t)
-  -- fields that the calendar has are those of an instant
+  pub instant-past : (t : ℤ) → inRange (x .calendar) t ≡ false → uppinaloWriteInstant (axisCode x) t ≡ noOffset OutOfRange
+  -- fields that the calendar has are those of an instant; others are refused for the year first, then where there are none such
   pub fields : (f : Fields) → HasFields (x .calendar) f → (t : ℤ) × (uppinaloFieldsOf (calendarCode (x .calendar)) t ≡ fieldsGiven f) × WritesExactly x t (uppinaloWriteFields (axisCode x) f)
+  pub year-past : (f : Fields) → inYears (f .year) ≡ false → uppinaloWriteFields (axisCode x) f ≡ noOffset OutOfRange
+  pub no-fields : (f : Fields) → inYears (f .year) ≡ true → (exists (x .calendar) (dateIn f) && isClock f) ≡ false → uppinaloWriteFields (axisCode x) f ≡ noOffset NoSuchDate
 
--- ---- demand 2: texts of at most 128 bytes with a listed name are refused as ill-formed exactly where the grammar does not derive them
+-- ---- demand 2: texts, refused with 1, 2, 3 in that order
 
-pub record TextsByGrammar (name text : List ℕ) : Type 0 where
-  pub read-units : (uppinaloReadUnits name text .number ≡ 3) ↔ ((u : Units) → Derives units text u → ⊥)
-  pub read-iso : (uppinaloReadIso name text .number ≡ 3) ↔ ((w : WrittenDate) → Derives dateRule text w → ⊥)
+-- a text of at most 128 bytes with a name of the calendar c, the empty name of `standard` among them
+pub record TextsByGrammar (name text : List ℕ) (c : Calendar) : Type 0 where
+  -- ill-formed exactly where the grammar does not derive it
+  pub units-refused : (uppinaloReadUnits name text .number ≡ 3) ↔ ((u : Units) → Derives units text u → ⊥)
+  pub iso-refused : (uppinaloReadIso name text .number ≡ 3) ↔ ((w : WrittenDate) → Derives dateRule text w → ⊥)
+  -- and else read as what it derives, in that calendar
+  pub units-read : (u : Units) → Derives units text u → uppinaloReadUnits name text ≡ ofAxis (axisOf c u)
+  pub iso-read : (w : WrittenDate) → Derives dateRule text w → uppinaloReadIso name text ≡ ofInstant (writtenInstant c w)
+
+-- before that, a text of more bytes, and then a name that is not listed
+pub record TextsBeforeGrammar (name text : List ℕ) : Type 0 where
+  pub units-long : 128 < length text → uppinaloReadUnits name text ≡ ofAxis (AxisAnswer.Refused TextTooLong)
+  pub iso-long : 128 < length text → uppinaloReadIso name text ≡ ofInstant (InstantAnswer.Refused TextTooLong)
+  pub units-name : length text ≤ 128 → calendarOf name ≡ none → uppinaloReadUnits name text ≡ ofAxis (AxisAnswer.Refused UnknownCalendar)
+  pub iso-name : length text ≤ 128 → calendarOf name ≡ none → uppinaloReadIso name text ≡ ofInstant (InstantAnswer.Refused UnknownCalendar)
 
 -- ---- demand 3: doubles on a fixed axis. A finite double is ± m * 2 ^ e, s its sign
 
@@ -191,7 +231,7 @@ pub record DoublesRead (x : Axis) : Type 0 where
 
 -- ---- runs: each offset as it would be alone
 
--- how many readings of a run are not exact
+-- how many offsets of a run, all of which are read, are not exact
 abbrev pub inexactCount : {A : Type 0} → (A → UppinaloReading) → List A → ℕ
 inexactCount read [] = 0
 inexactCount read (x ∷ xs) = cond (read x .exact) 0 1 + inexactCount read xs
@@ -219,7 +259,7 @@ pub record PastReference (x : Axis) : Type 0 where
   pub read-wholes : (xs ds : List ℤ) → uppinaloReadWholes (axisCode x) xs ds ≡ noRun OutOfRange
   pub read-doubles : (xs : List Float) (ds : List ℤ) → uppinaloReadDoubles (axisCode x) xs ds ≡ noRun OutOfRange
 
--- ---- every instant that is handed out, and the reference of every axis, lies in the years -9999 to 9999
+-- ---- every instant that is given, and the reference of every axis that is read, lies in the years -9999 to 9999
 
 pub record GivenInYears : Type 0 where
   pub read-whole : (x : Axis) (n t : ℤ) (exact : Bool) → uppinaloReadWhole (axisCode x) n ≡ readAt t exact → inRange (x .calendar) t ≡ true
@@ -234,12 +274,15 @@ pub record GivenInYears : Type 0 where
 
 pub record Demands : Type 0 where
   pub codes : CodesOfAxes
+  pub other-codes : (a : UppinaloAxis) (r : Refusal) → codedAxis a ≡ CodedAxis.Refused r → OtherCodes a r
+  pub other-calendar : (calendar : ℕ) → codedCalendar calendar ≡ CodedCalendar.Unknown → OtherCalendar calendar
   pub refusals : ZeroBesideRefusal
   pub dates : (c : Calendar) → DatesByNextDay c
-  pub days-there : (x : Axis) → GoodReference x → x .period ≡ Period.Day → (n : ℤ) → (d : Date) × DaysFromReference x n d
-  pub days : (x : Axis) (n : ℤ) (d : Date) → DaysFromReference x n d → DaysRead x n d
+  pub days-there : (x : Axis) → GoodReference x → x .period ≡ Period.Day → (n : ℤ) → (r : Date) × (d : Date) × DaysFromReference x n r d
+  pub days : (x : Axis) (n : ℤ) (r d : Date) → DaysFromReference x n r d → DaysRead x n d
   pub writing : (x : Axis) → GoodReference x → WritingBack x
-  pub texts : (name text : List ℕ) (c : Calendar) → length text ≤ 128 → calendarOf name ≡ some c → TextsByGrammar name text
+  pub texts : (name text : List ℕ) (c : Calendar) → length text ≤ 128 → calendarOf name ≡ some c → TextsByGrammar name text c
+  pub before-texts : (name text : List ℕ) → TextsBeforeGrammar name text
   pub doubles : (x : Axis) → x .mode ≡ Mode.Fixed → GoodReference x → DoublesRead x
   pub runs : (x : Axis) → GoodReference x → RunsByOffsets x
   pub past-reference : (x : Axis) → inRange (x .calendar) (x .reference) ≡ false → PastReference x
