@@ -3,7 +3,7 @@
 --   writing         and what is demanded of writing
 --   refused-axis    an axis that is refused refuses every call
 --   read-inside     every instant that is read lies in the range
---   whole-exact     a whole offset that is read is exact
+--   whole-exact     reading a whole offset rounds nothing
 --   whole-between   a whole offset between two that are read is read
 --   double-between  and in fixed mode a double
 --   fields-written  fields are written as their instant is
@@ -12,7 +12,7 @@
 --   days-read       on an axis of days a whole offset is read as crate `fixed_axis` reads it, in either mode
 --   moved           in calendar mode the date of the instant is that of the reference, moved at once by all the steps, and the time of day is kept
 --   fixed-double    a double on an axis of fixed mode is read as crate `fixed_axis` reads it, whose proofs/Demands.antt has demand 3
---   whole-double    in calendar mode a whole double does as the whole offset
+--   whole-double    in calendar mode a double that is whole is read as that whole offset
 --   refused-double  in calendar mode another double is refused as it is no whole number of 64 bits
 use mathlib.Core.Path.{_≡_, refl, sym, ap, _∙_, subst}
 use mathlib.Core.Bool.{Bool, true, false, cond}

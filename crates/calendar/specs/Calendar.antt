@@ -1,4 +1,4 @@
--- The six calendars by their next-day rule: document 01, "Calendars". All else that is said of dates rests on `next`.
+-- The six calendars by their next-day rule: document 01, "Calendars". Theorems tie the day before, and which dates exist, to `next`.
 -- A calendar is a row: two plain calendars, of one of which it keeps the days through `last`, and of the other those from `first` on.
 use mathlib.Core.Path.{_≡_}
 use mathlib.Core.Bool.{Bool, true, false, not, _&&_, cond}
@@ -33,7 +33,7 @@ latePart r = plain (r .late) (r .zero)
 abbrev pub plainRow : Rule → Bool → CalendarRow
 plainRow r z = record { zero = z; early = r; late = r; last = date (pos 1582) 10 14; first = date (pos 1582) 10 15 }
 
--- `standard` is Julian through 1582-10-04; the next day is 1582-10-15, Gregorian. It has no year 0, all others have one
+-- `standard` joins the Julian calendar, through 1582-10-04, to the Gregorian from 1582-10-15 on, and lacks the year 0 that all others have
 abbrev pub rowOf : Calendar → CalendarRow
 rowOf Standard = record { zero = false; early = Rule.Julian; late = Rule.Gregorian; last = date (pos 1582) 10 4; first = date (pos 1582) 10 15 }
 rowOf ProlepticGregorian = plainRow Rule.Gregorian true
@@ -56,7 +56,7 @@ prevBy r x = cond (sameDate x (r .first)) (r .last) (cond (earlier x (r .first))
 unfoldable pub existsBy : CalendarRow → Date → Bool
 existsBy r x = cond (earlier x (r .first)) (hasDay (earlyPart r) x && not (earlier (r .last) x)) (hasDay (latePart r) x)
 
--- ---- the date of a day number: the next-day rule applied that many times from 1970-01-01, or undone
+-- ---- the date of a day number: so many steps of the next-day rule from 1970-01-01, or as many back
 
 abbrev pub epoch : Date
 epoch = date (pos 1970) 1 1

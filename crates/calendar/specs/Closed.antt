@@ -1,4 +1,4 @@
--- Closed forms, which only private functions compute; no promise to a caller rests on them. proofs/ joins them to the next-day rule.
+-- Closed forms, which only inner functions compute; no promise to a caller of the library rests on them. proofs/ joins them to the next-day rule.
 -- All over natural numbers: year y of a place is counted from year -10000, a month and a day from 0.
 use mathlib.Core.Bool.{Bool, false, not, _&&_, _||_, cond}
 use Prim.Native.Nat.{ℕ, zero, suc, _+_, _-_, _*_, _/_, _%_, _<_, _^_}

@@ -52,7 +52,7 @@ kindBy Rule.Common y = 0
 kindBy Rule.Leap y = 1
 kindBy Rule.Thirty y = 2
 
--- without a year 0, year -y counts as 1 - y in the leap rule
+-- the leap rule takes years as if there were a year 0: without one, -1 stands for 0, -2 for -1, and so on
 abbrev pub counted : Bool → ℤ → ℤ
 counted true y = y
 counted false (pos n) = pos n

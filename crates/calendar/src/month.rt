@@ -20,7 +20,7 @@ pub fn month_length(k: usize, m: usize) -> u64
     LENGTHS[k][m] as u64
 }
 
-// The days by which January and February fall short of 30 and 31: what the months after them are early by.
+// The days by which January and February together fall short of 61: what the months after them are early by.
 fn short_days(k: u64, m: u64) -> u64
     requires { ⌜ k < 2 ⌝ }
     ensures { λ r. ⌜ r ≡ cond (ltb m 2) 0 (2 - k) ⌝ }

@@ -1,5 +1,5 @@
--- Calendar mode for months and years: document 01, "Periods". An offset moves the month or year number of the reference's date
--- (specs/Steps.antt of crate `step`) and keeps its time of day. The reference, and an instant that is written, lie in the years -9999 to
+-- Calendar mode for months and years: document 01, "Periods". An offset is so many steps from the reference's date
+-- (specs/Steps.antt of crate `step`), at its time of day. The reference, and an instant that is written, lie in the years -9999 to
 -- 9999; crate `axis` tests that.
 use mathlib.Core.Bool.{Bool, true, cond}
 use Prim.Native.Nat.{ℕ}

@@ -17,8 +17,8 @@ use Rattle.date_text.specs.declared.WrittenDate.{WrittenDate}
 abbrev pub sign : Grammar Bool
 sign = give (λ (b : ℕ). eqb b (code "-")) (one (anyOf (bytes "+-")))
 
--- ---- a zone: a space or none, and then a name of UTC in any mix of cases, or a sign, two digits of hours and two of minutes, which
--- a colon may part and which may be absent
+-- ---- a zone: a space or none, and then a name of UTC in capitals or small letters, or a sign and hours of two digits, after which
+-- minutes of two digits may follow, with a colon before them or none
 
 abbrev pub utc : Zone
 utc = record { behind = false; hours = 0; minutes = 0 }

@@ -1,4 +1,4 @@
--- Closed forms that only private functions compute: the fields of a double's bit pattern, and a finite double's size from the exponent's field and the digits t below the leading one.
+-- Closed forms that only inner functions compute: the fields of a double's bit pattern, and a finite double's size from the exponent's field and the digits t below the leading one.
 use mathlib.Core.Path.{_≡_}
 use Prim.Native.Nat.{ℕ, zero, suc, _+_, _*_, _/_, _%_, _^_, _≤_}
 use lib.Dec.{leb}

@@ -1,4 +1,4 @@
--- The exact time that a double stands for on a fixed axis, and the count of microseconds nearest to it (document 01, "A double is read by its exact meaning").
+-- The exact time that a double stands for on a fixed axis, and the count of microseconds nearest to it (document 01, "Numbers returned").
 -- A finite double is ± m * 2 ^ e: s is its sign, true for minus, m its significand, and 2 ^ e the fraction up e / down e of whole numbers.
 -- On an axis with the reference R and P microseconds to its period, the exact time is R ± m * 2 ^ e * P. It is never rounded: all below counts in parts of a microsecond, of which down e make one.
 use mathlib.Core.Path.{_≡_}

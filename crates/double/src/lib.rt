@@ -1,6 +1,6 @@
-// Doubles by their exact value, with no floating-point operation: on a fixed axis the displacement in microseconds that is nearest to a
+// Doubles by their exact value, with no floating-point arithmetic: on a fixed axis the displacement in microseconds that is nearest to a
 // number of periods, a tie to the even one, and whether nothing was rounded; as a whole offset in module `whole`. A reader may rely on
-// specs/Displacement.antt and on the theorems about it in proofs/Distance.antt and proofs/Order.antt.
+// specs/Displacement.antt, and on the theorems about the nearest count in proofs/Distance.antt and proofs/Order.antt.
 ghost use mathlib.Core.Path.{_≡_};
 ghost use mathlib.Core.Bool.{not};
 ghost use Prim.Native.Nat.{_+_, _*_, _^_, _≤_, _<_};

@@ -5,7 +5,7 @@
 --   nearest-there    there is a nearest count, nearest-only    and no other
 --   outcome          whatever count is nearest, it is the answer where its day lies in the years, and OutOfRange elsewhere
 --   refused-past, past-refused    OutOfRange exactly where the day of the nearest count leaves the years, by the next-day rule
---   not-finite       NotFinite for the doubles that are none
+--   not-finite       NotFinite for a NaN and the infinities
 --   read-mono, read-ordered    the greater double never gives the earlier instant, nor the earlier date
 --   minus-zero       minus zero is zero
 -- Whole offsets and writing:

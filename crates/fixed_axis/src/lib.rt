@@ -43,7 +43,8 @@ fn reading_at(c: Calendar, t: i64, exact: bool) -> Reading
     return Reading::Refused(Refusal::OutOfRange);
 }
 
-// Whether n periods are at most 2^61 microseconds. 2^60 or more lead out of the range from each of its instants.
+// Whether n periods may lead from one instant of the range to another: true only up to 2^61 microseconds, and false only from 2^60 on, which
+// lead out of the range from each of its instants.
 fn reaches(p: Period, n: i64) -> bool
     ensures { λ b. ⌜ Reaches b (lengthOf p) n ⌝ }
 {
@@ -97,7 +98,7 @@ pub fn read_double(c: Calendar, p: Period, reference: i64, x: f64) -> Reading
     }
 }
 
-// The instant of a double that is known to be read, and whether it is the exact time: no test is left. The scale is that of the period.
+// The instant of a double that is known to be read, and whether it is the exact time: the range is not tested again. The scale is that of the period.
 pub fn nearest_time(c: Calendar, p: Period, reference: i64, scale: Scale, x: f64) -> NearestTime
     requires begun { ⌜ inRange c reference ≡ true ⌝ }
     requires scaled { ⌜ (scale .micros ≡ lengthOf p) × IsScale scale ⌝ }

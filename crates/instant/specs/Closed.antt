@@ -1,4 +1,4 @@
--- Closed forms, which only private functions compute: the ends of the range. proofs/Range.antt joins them to the next-day rule.
+-- Closed forms, which only inner functions compute: the ends of the range. proofs/Range.antt joins them to the next-day rule.
 use Prim.Native.Nat.{_-_}
 use lib.IntN.{ℤ, subℕ}
 use Rattle.calendar.specs.Closed.{epochDay, firstDay, endDay}

@@ -1,4 +1,4 @@
--- Instants and their fields: document 01, "Instants and axes". An instant is a count of microseconds from 1970-01-01T00:00:00.
+-- Instants and their fields: document 01, "Instants and axes". An instant is a count of microseconds since the start of 1970.
 use mathlib.Core.Bool.{Bool, _&&_, cond}
 use Prim.Native.Nat.{ℕ, _+_, _-_, _*_, _/_, _%_}
 use lib.Dec.{ltb}

@@ -1,5 +1,5 @@
-// Instants: microseconds from 1970-01-01T00:00:00 of a calendar, their range, and their fields. `fields_of` and `instant_of` are total, and
-// each undoes the other.
+// Instants: counts of microseconds since the start of 1970 in a calendar, their range, and their fields. `fields_of` and `instant_of` are
+// total, and each undoes the other.
 ghost use mathlib.Core.Path.{_≡_};
 ghost use Prim.Native.Nat.{_<_};
 ghost use lib.IntN.{subℕ};

@@ -1,4 +1,5 @@
-// The passes that find the ends of a run: its least and its greatest offset, by comparing alone.
+// The passes that find the ends of a run: the least and the greatest of its offsets and zero. Doubles of calendar mode are compared as the
+// whole numbers that they are.
 ghost use mathlib.Core.Path.{_≡_};
 ghost use lib.Ieee.{lt};
 ghost use lib.Signed.{ltZ};

@@ -1,5 +1,5 @@
-// A lent run of offsets read at once into a lent run of instants, all or nothing: a pass that checks, then a pass that writes. A reader may
-// rely on specs/Run.antt.
+// Runs: offsets of one axis that are lent together, and read into lent room for instants, all or none: what checks comes before what writes.
+// A reader may rely on specs/Run.antt.
 ghost use mathlib.Core.Path.{_≡_};
 ghost use Rattle.axis.specs.Axis.{readDoubleOn, readWholeOn, axisCheck};
 ghost use Rattle.runs.specs.Run.{checkAnswer, runAnswer, runWritten};
@@ -16,7 +16,7 @@ pub enum Check {
     Refused { refusal: Refusal, place: usize },
 }
 
-// The answer of a run: 0, the source's length and how many offsets were rounded; or the number of a refusal and its place.
+// The answer of a run: 0, how many offsets there are and how many of them are not exact; or the number of a refusal and its place.
 #[repr(C)]
 pub struct RunAnswer {
     pub number: u32,
@@ -62,7 +62,7 @@ pub fn read_doubles(axis: Axis, source: &[f64], destination: &mut [i64]) -> RunA
     }
 }
 
-// A run of wholes. A whole offset that is read is exact.
+// A run of wholes, of which none is rounded.
 pub fn read_wholes(axis: Axis, source: &[i64], destination: &mut [i64]) -> RunAnswer
     ensures answered { λ r. ⌜ r ≡ runAnswer (readWholeOn axis) (axisCheck axis) (now (source .entry)) (now (destination .entry)) ⌝ }
     ensures written { λ _. ⌜ now (destination .exit) ≡ runWritten (readWholeOn axis) (axisCheck axis) (now (source .entry)) (now (destination .entry)) ⌝ }

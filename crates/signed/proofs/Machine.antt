@@ -1,4 +1,4 @@
--- What the machine does to a signed number: each operand is read back from its bits. Used by the border's two functions alone.
+-- What the machine does to a signed number: each operand is read back from its bits. Used where a function takes or gives one.
 use mathlib.Core.Path.{_≡_, refl, sym, ap, _∙_, subst}
 use mathlib.Core.Bool.{true, false, true≢false}
 use Prim.Native.Nat.{ℕ, zero, suc, _-_, _<_, _^_}

@@ -1,6 +1,5 @@
-// The border between signed and unsigned numbers. A signed number crosses it once, as the natural number
-// n + 2^63, and all arithmetic beyond it is unsigned. Both directions are total; in machine code each is
-// one instruction.
+// The border between signed and unsigned numbers. Arithmetic on dates is unsigned: a signed number goes there as the natural number
+// n + 2^63, and comes back by `unbiased`. Both directions are total.
 ghost use mathlib.Core.Path.{_≡_};
 ghost use Prim.Native.Nat.{_<_, _^_};
 ghost use Rattle.signed.specs.Bias.{biased, unbiased};

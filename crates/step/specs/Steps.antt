@@ -1,6 +1,6 @@
 -- Steps by months and years in a calendar: document 01, "Periods", calendar mode.
--- The month or year number of a date moves by all the steps at once. Only then, where the month reached does not have the day, the day
--- number goes down until it does. So no step rests on a date that another step has changed.
+-- The month or year number of a date moves by all the steps at once. Only then, where the month that is reached lacks the day, the day is
+-- lowered one by one to one that it has. So no step rests on a date that another step has changed.
 use mathlib.Core.Bool.{cond}
 use Prim.Native.Nat.{ℕ, zero, suc, _+_, _-_}
 use lib.Dec.{ltb}

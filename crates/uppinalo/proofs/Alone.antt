@@ -1,4 +1,4 @@
--- Runs: each offset is read or refused as it would be alone. And an axis whose reference lies past the years.
+-- Runs, offset by offset: a run answers what the call for one offset answers. And an axis whose reference lies past the years.
 use mathlib.Core.Path.{_≡_, refl, sym, ap, _∙_, subst}
 use mathlib.Core.Bool.{Bool, true, false, cond, false≢true}
 use mathlib.Core.List.{List, [], _∷_, _++_, map}

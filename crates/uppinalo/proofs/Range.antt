@@ -1,4 +1,4 @@
--- Every instant that is handed out, and the reference of every axis, lies in the years -9999 to 9999.
+-- The instants that are given, and the references of axes that are read, lie in the years -9999 to 9999.
 use mathlib.Core.Path.{_≡_, refl, sym, ap, _∙_, subst}
 use mathlib.Core.Bool.{Bool, true}
 use mathlib.Core.List.{List, [], _∷_, map}

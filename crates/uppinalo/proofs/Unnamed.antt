@@ -1,9 +1,7 @@
 -- Codes that name no axis, or no calendar: every call with them is refused.
-use mathlib.Core.Path.{_≡_, refl, sym, ap, _∙_}
+use mathlib.Core.Path.{_≡_, ap}
 use Prim.Native.Nat.{ℕ}
-use native.Mathlib.Omega.{arith}
 use Rattle.refusal.specs.declared.Refusal.{Refusal}
-use Rattle.refusal.specs.declared.Refusal.the-variants.{UnknownCalendar, IllFormed}
 use Rattle.axis_types.specs.declared.Axis.{Axis}
 use Rattle.calendar.specs.declared.Calendar.{Calendar}
 use Rattle.axis.specs.Axis.{readWholeOn, readDoubleOn, writeInstantOn, writeFieldsOn}

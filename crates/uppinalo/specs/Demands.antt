@@ -229,7 +229,7 @@ pub record DoublesRead (x : Axis) : Type 0 where
   pub not-a-number : uppinaloReadDouble (axisCode x) nan ≡ noReading NotFinite
   pub infinite : (s : Bool) → uppinaloReadDouble (axisCode x) (inf s) ≡ noReading NotFinite
 
--- ---- runs: each offset as it would be alone
+-- ---- runs, offset by offset
 
 -- how many offsets of a run, all of which are read, are not exact
 abbrev pub inexactCount : {A : Type 0} → (A → UppinaloReading) → List A → ℕ
@@ -259,7 +259,7 @@ pub record PastReference (x : Axis) : Type 0 where
   pub read-wholes : (xs ds : List ℤ) → uppinaloReadWholes (axisCode x) xs ds ≡ noRun OutOfRange
   pub read-doubles : (xs : List Float) (ds : List ℤ) → uppinaloReadDoubles (axisCode x) xs ds ≡ noRun OutOfRange
 
--- ---- every instant that is given, and the reference of every axis that is read, lies in the years -9999 to 9999
+-- ---- instants that are given, and references of axes that are read, lie in the years -9999 to 9999
 
 pub record GivenInYears : Type 0 where
   pub read-whole : (x : Axis) (n t : ℤ) (exact : Bool) → uppinaloReadWhole (axisCode x) n ≡ readAt t exact → inRange (x .calendar) t ≡ true

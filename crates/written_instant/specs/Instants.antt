@@ -1,5 +1,5 @@
--- The instant of a date as it is written: document 01, "The units text" and "Numbers returned". Date and time are local, and the instant
--- is the local time less the zone. 4 tests what is written, and 5 the instant after the zone.
+-- The instant of a date as it is written: document 01, "The units text" and "Numbers returned". Date and time are local,
+-- and what the zone is ahead of UTC is taken off. 4 tests what is written, and 5 the instant without the zone.
 use mathlib.Core.Bool.{Bool, _&&_, cond}
 use Prim.Native.Nat.{ℕ, _+_, _*_}
 use lib.Dec.{ltb}
@@ -40,7 +40,7 @@ ahead z = withSign (z .behind) (zoneLength z)
 
 -- ---- the instant
 
--- an instant that is handed out lies in the years -9999 to 9999
+-- an instant past the years -9999 to 9999 is refused
 abbrev pub ranged : Calendar → ℤ → InstantAnswer
 ranged c t = cond (inRange c t) (InstantAnswer.Is t) (InstantAnswer.Refused OutOfRange)
 

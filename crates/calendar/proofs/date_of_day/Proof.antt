@@ -1,4 +1,4 @@
--- `calendar::date_of_day` meets its contract. Assumes nothing.
+-- `calendar::date_of_day` meets its contract.
 use mathlib.Core.Path.{sym, ap, _∙_}
 use Rattle.calendar.specs.declared.DateAnswer.{DateAnswer}
 use Rattle.calendar.proofs.Answering.{in-range, out-of-range}

@@ -1,4 +1,4 @@
--- `calendar::day_in_years` meets its contract. Assumes nothing.
+-- `calendar::day_in_years` meets its contract.
 use mathlib.Core.Path.{sym, ap, _∙_}
 use Prim.Native.Nat.{ℕ, _+_, _-_}
 use native.Mathlib.Omega.{arith}

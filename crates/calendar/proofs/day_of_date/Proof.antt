@@ -1,4 +1,4 @@
--- `calendar::day_of_date` meets its contract. Assumes nothing.
+-- `calendar::day_of_date` meets its contract.
 use mathlib.Core.Path.{_≡_, refl, sym, ap, _∙_, subst}
 use mathlib.Core.Bool.{Bool, true, _&&_, true≢false}
 use Prim.Native.Nat.{_<_}

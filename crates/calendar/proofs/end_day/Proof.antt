@@ -1,3 +1,4 @@
+-- `calendar::end_day` meets its contract.
 use mathlib.Core.Path.{ap, _∙_}
 use Rattle.calendar.specs.Closed.{yearStart, rowEnd}
 use Rattle.calendar.specs.declared.row.CountedRow.{CountedRow}

@@ -1,3 +1,4 @@
+-- `calendar::epoch_day` meets its contract.
 use mathlib.Core.Path.{ap, _∙_}
 use Rattle.calendar.specs.Closed.{yearStart, rowEpoch}
 use Rattle.calendar.specs.declared.row.CountedRow.{CountedRow}

@@ -1,3 +1,4 @@
+-- `calendar::origin` meets its contract.
 use native.Mathlib.Omega.{arith}
 use Rattle.calendar.proofs.Range.{small}
 use borrow.Author.Needs.{needs}

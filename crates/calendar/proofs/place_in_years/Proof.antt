@@ -1,4 +1,4 @@
--- `calendar::place_in_years` meets its contract. Assumes nothing.
+-- `calendar::place_in_years` meets its contract.
 use mathlib.Core.Path.{subst}
 use Prim.Native.Nat.{_-_, _<_, _≤_}
 use native.Mathlib.Omega.{arith}

@@ -1,4 +1,4 @@
--- `calendar::year_count` meets its contract. Assumes nothing.
+-- `calendar::year_count` meets its contract.
 use mathlib.Core.Path.{ap}
 use Prim.Native.Nat.{_-_}
 use native.Mathlib.Omega.{arith}

@@ -1,4 +1,4 @@
--- `codes::axis_code` meets its contract. Assumes nothing.
+-- `codes::axis_code` meets its contract.
 use mir.Syntax.{w64}
 use mir.Val.{SFits}
 use mir.ValLaws.{toZ-ofZ}

@@ -1,4 +1,4 @@
--- `codes::axis_of` meets its contract. Assumes nothing.
+-- `codes::axis_of` meets its contract.
 use mathlib.Core.Path.{sym, _∙_}
 use mir.Syntax.{w64}
 use mir.Val.{SFits}

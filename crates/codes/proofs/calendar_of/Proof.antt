@@ -1,4 +1,4 @@
--- `codes::calendar_of` meets its contract. Assumes nothing.
+-- `codes::calendar_of` meets its contract.
 use mathlib.Core.Path.{sym, ap}
 use Rattle.codes.specs.Codes.{codedCalendar}
 use Rattle.codes.proofs.Unknown.{unknown-calendar}

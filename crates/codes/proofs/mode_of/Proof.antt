@@ -1,4 +1,4 @@
--- `codes::mode_of` meets its contract. Assumes nothing.
+-- `codes::mode_of` meets its contract.
 use mathlib.Core.Path.{sym, ap}
 use Rattle.codes.specs.Codes.{codedMode}
 use Rattle.codes.proofs.Unknown.{unknown-mode}

@@ -1,4 +1,4 @@
--- `codes::period_of` meets its contract. Assumes nothing.
+-- `codes::period_of` meets its contract.
 use mathlib.Core.Path.{sym, ap}
 use Rattle.codes.specs.Codes.{codedPeriod}
 use Rattle.codes.proofs.Unknown.{unknown-period}

@@ -1,4 +1,4 @@
--- `instant::fields_of` meets its contract. Assumes nothing.
+-- `instant::fields_of` meets its contract.
 use mathlib.Core.Path.{_≡_, sym, ap, _∙_, subst}
 use Prim.Native.Nat.{ℕ, _<_}
 use mir.Syntax.{w64}

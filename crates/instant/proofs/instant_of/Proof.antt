@@ -1,4 +1,4 @@
--- `instant::instant_of` meets its contract. Assumes nothing.
+-- `instant::instant_of` meets its contract.
 use mathlib.Core.Path.{_≡_, refl, sym, ap, _∙_, subst}
 use mathlib.Core.Bool.{Bool, true, cond}
 use Prim.Native.Nat.{ℕ, _<_}

@@ -1,4 +1,4 @@
--- `instant::is_clock` meets its contract. Assumes nothing.
+-- `instant::is_clock` meets its contract.
 use borrow.Author.Tests.{le-ltb, lt-ltb}
 use mathlib.Core.Bool.{_&&_, and-false}
 use lib.Dec.{ltb}

@@ -1,4 +1,4 @@
--- `signed::biased` meets its contract. Assumes nothing.
+-- `signed::biased` meets its contract.
 use mathlib.Core.Path.{sym, ap, _∙_, subst}
 use Prim.Native.Nat.{_-_, _+_}
 use native.Mathlib.Omega.{arith}

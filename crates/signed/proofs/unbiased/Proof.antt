@@ -1,4 +1,4 @@
--- `signed::unbiased` meets its contract. Assumes nothing.
+-- `signed::unbiased` meets its contract.
 use mathlib.Core.Path.{sym, ap, _∙_}
 use Prim.Native.Nat.{_-_}
 use native.Mathlib.Omega.{arith}

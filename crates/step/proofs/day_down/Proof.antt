@@ -1,4 +1,4 @@
--- `step::day_down` meets its contract. The loop passes only days that do not exist. Assumes nothing.
+-- `step::day_down` meets its contract. The loop passes only days that do not exist.
 use mathlib.Core.Path.{_≡_, refl, sym, ap, _∙_}
 use native.Mathlib.Omega.{arith}
 use borrow.Author.Needs.{needs}

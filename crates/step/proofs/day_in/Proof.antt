@@ -1,4 +1,4 @@
--- `step::day_in` meets its contract. Assumes nothing.
+-- `step::day_in` meets its contract.
 use mathlib.Core.Path.{_≡_, ap, _∙_}
 use Prim.Native.Nat.{_+_, _/_, _%_}
 use native.Mathlib.Omega.{arith}

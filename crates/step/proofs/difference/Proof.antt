@@ -1,4 +1,4 @@
--- `step::difference` meets its contract. Assumes nothing.
+-- `step::difference` meets its contract.
 use mathlib.Core.Path.{_∙_}
 use Prim.Native.Nat.{_+_, _-_}
 use native.Mathlib.Omega.{arith}

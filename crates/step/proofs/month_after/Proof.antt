@@ -1,4 +1,4 @@
--- `step::month_after` meets its contract. Assumes nothing.
+-- `step::month_after` meets its contract.
 use mathlib.Core.Path.{_≡_, ap}
 use Prim.Native.Nat.{ℕ, _-_, _*_, _≤_}
 use native.Mathlib.Omega.{arith}

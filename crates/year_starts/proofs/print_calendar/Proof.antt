@@ -1,5 +1,5 @@
 -- `year_starts::print_calendar` is safe and ends.
--- Assumes nothing.
+--
 use Prim.Native.Nat.{_≤_, _-_}
 use borrow.Author.Needs.{needs}
 use Rattle.year_starts.proofs.print_calendar.Statement.{statement}

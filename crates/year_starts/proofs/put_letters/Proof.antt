@@ -1,5 +1,5 @@
 -- `year_starts::put_letters` is safe and ends: no more letters are put than years were tried.
--- Assumes nothing.
+--
 use Prim.Native.Nat.{_≤_, _-_}
 use native.Mathlib.Omega.{arith}
 use mathlib.Core.Path.{_≡_, refl}

@@ -1,4 +1,4 @@
--- `calendar::civil::date_of_packed` meets its contract. Assumes nothing.
+-- `calendar::civil::date_of_packed` meets its contract.
 use mathlib.Core.Path.{refl, ap, _∙_}
 use mathlib.Core.Bool.{Bool}
 use Prim.Native.Nat.{_/_}

@@ -1,4 +1,4 @@
--- `calendar::civil::year_name` meets its contract. Assumes nothing.
+-- `calendar::civil::year_name` meets its contract.
 use mathlib.Core.Path.{_≡_, sym, _∙_}
 use Prim.Native.Nat.{_+_}
 use native.Mathlib.Omega.{arith}

@@ -1,4 +1,4 @@
--- `calendar::month::month_length` meets its contract: the constant is the definition's table. Assumes nothing.
+-- `calendar::month::month_length` meets its contract: the constant is the definition's table.
 use native.Mathlib.Omega.{arith}
 use borrow.Author.Needs.{needs}
 use Rattle.calendar.specs.Plain.{monthDays}

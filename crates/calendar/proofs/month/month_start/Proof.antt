@@ -1,4 +1,4 @@
--- `calendar::month::month_start` meets its contract. Assumes nothing.
+-- `calendar::month::month_start` meets its contract.
 use mathlib.Core.Path.{_≡_, refl, sym, _∙_}
 use mathlib.Core.Bool.{Bool, true, false, cond}
 use Prim.Native.Nat.{ℕ, _+_, _-_, _*_, _/_, _≤_}

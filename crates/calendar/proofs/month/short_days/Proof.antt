@@ -1,4 +1,4 @@
--- `calendar::month::short_days` meets its contract. Assumes nothing.
+-- `calendar::month::short_days` meets its contract.
 use borrow.Author.Tests.{lt-ltb, le-ltb}
 use borrow.Author.Needs.{needs}
 use Rattle.calendar.proofs.month.short_days.Statement.{statement}

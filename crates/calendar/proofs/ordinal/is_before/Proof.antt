@@ -1,3 +1,4 @@
+-- `calendar::ordinal::is_before` meets its contract.
 use Rattle.calendar.proofs.Counting.{by-other-year, by-month-before, by-month-after, by-day-test}
 use borrow.Author.Needs.{needs}
 use Rattle.calendar.proofs.ordinal.is_before.Statement.{statement}

@@ -1,3 +1,4 @@
+-- `calendar::ordinal::is_dropped` meets its contract.
 use mathlib.Core.Path.{_≡_, sym, ap, _∙_}
 use mathlib.Core.Bool.{true, not}
 use borrow.Author.Tests.{not-true, not-false}

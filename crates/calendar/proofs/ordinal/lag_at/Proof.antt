@@ -1,3 +1,4 @@
+-- `calendar::ordinal::lag_at` meets its contract.
 use mathlib.Core.Path.{sym, ap, _∙_}
 use mathlib.Core.Bool.{Bool, cond}
 use Rattle.calendar.specs.Closed.{counts, lag}

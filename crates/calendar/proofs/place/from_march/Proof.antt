@@ -1,4 +1,4 @@
--- `calendar::place::from_march` meets its contract. Assumes nothing.
+-- `calendar::place::from_march` meets its contract.
 use mathlib.Core.Path.{_≡_, refl, ap}
 use mathlib.Core.Bool.{Bool, true, false, cond}
 use Prim.Native.Nat.{ℕ, _+_, _-_, _*_, _<_, _≤_}

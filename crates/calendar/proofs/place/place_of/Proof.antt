@@ -1,4 +1,4 @@
--- `calendar::place::place_of` meets its contract. Assumes nothing.
+-- `calendar::place::place_of` meets its contract.
 use mathlib.Core.Path.{_≡_, refl, sym, ap, subst, _∙_}
 use mathlib.Core.List.{_∷_, []}
 use Prim.Native.Nat.{ℕ, _+_}

@@ -1,4 +1,4 @@
--- `calendar::place::years_back` meets its contract. Assumes nothing.
+-- `calendar::place::years_back` meets its contract.
 use borrow.Author.Tests.{lt-ltb, le-ltb}
 use Rattle.calendar.proofs.place.years_back.Statement.{statement}
 use Rattle.calendar.proofs.place.years_back.Tie as tie

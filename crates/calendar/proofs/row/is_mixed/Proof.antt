@@ -1,3 +1,4 @@
+-- `calendar::row::is_mixed` meets its contract.
 use mathlib.Core.Path.{_≡_, sym, ap, _∙_}
 use mathlib.Core.Bool.{true, not, and-false}
 use lib.Dec.{eqb}

@@ -1,3 +1,4 @@
+-- `calendar::row::row_of` meets its contract.
 use mathlib.Core.Path.{sym, ap, _∙_}
 use Rattle.calendar.specs.Closed.{counts}
 use borrow.Author.Needs.{needs}

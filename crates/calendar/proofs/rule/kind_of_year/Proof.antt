@@ -1,4 +1,4 @@
--- `calendar::rule::kind_of_year` meets its contract. Assumes nothing.
+-- `calendar::rule::kind_of_year` meets its contract.
 use mathlib.Core.Path.{sym, ap, _∙_}
 use Rattle.calendar.specs.Closed.{kindAt}
 use Rattle.calendar.specs.declared.rule.Rule.{Rule}

@@ -1,4 +1,4 @@
--- `calendar::rule::year_day` meets its contract. Assumes nothing.
+-- `calendar::rule::year_day` meets its contract.
 use mathlib.Core.Path.{sym, ap, _∙_}
 use Prim.Native.Nat.{ℕ, _*_, _/_, _%_}
 use Rattle.calendar.specs.Closed.{dayOfYear, yearDay}

@@ -1,4 +1,4 @@
--- `calendar::rule::year_start` meets its contract. Assumes nothing.
+-- `calendar::rule::year_start` meets its contract.
 use mathlib.Core.Path.{sym, ap, _∙_}
 use Rattle.calendar.specs.Closed.{yearStart}
 use Rattle.calendar.specs.declared.rule.Rule.{Rule}

@@ -1,4 +1,4 @@
--- `uppinalo::days::no_date` meets its contract. Assumes nothing.
+-- `uppinalo::days::no_date` meets its contract.
 use lib.IntN.{pos}
 use borrow.Author.Needs.{needs}
 use Rattle.uppinalo.proofs.days.no_date.Statement.{statement}

@@ -1,4 +1,4 @@
--- `uppinalo::days::of_day` meets its contract. Assumes nothing.
+-- `uppinalo::days::of_day` meets its contract.
 use mathlib.Core.Path.{sym, ap, _∙_}
 use Rattle.uppinalo.specs.Days.{ofDay}
 use mir.Syntax.{w64}

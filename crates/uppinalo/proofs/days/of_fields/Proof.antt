@@ -1,4 +1,4 @@
--- `uppinalo::days::of_fields` meets its contract. Assumes nothing.
+-- `uppinalo::days::of_fields` meets its contract.
 use mathlib.Core.Path.{sym, ap, _∙_}
 use mir.Syntax.{w64}
 use mir.Val.{SFits}

@@ -1,4 +1,4 @@
--- `uppinalo::days::uppinalo_date_of_day` meets its contract. Assumes nothing.
+-- `uppinalo::days::uppinalo_date_of_day` meets its contract.
 use mathlib.Core.Path.{sym, ap, _∙_}
 use Rattle.uppinalo.specs.Days.{dateByCode, ofDate}
 use Rattle.codes.specs.declared.CodedCalendar.{CodedCalendar}

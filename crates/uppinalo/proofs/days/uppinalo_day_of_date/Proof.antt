@@ -1,4 +1,4 @@
--- `uppinalo::days::uppinalo_day_of_date` meets its contract. Assumes nothing.
+-- `uppinalo::days::uppinalo_day_of_date` meets its contract.
 use mathlib.Core.Path.{sym, ap, _∙_}
 use Rattle.uppinalo.specs.Days.{dayByCode, ofDay}
 use Rattle.codes.specs.declared.CodedCalendar.{CodedCalendar}

@@ -1,4 +1,4 @@
--- `uppinalo::days::uppinalo_fields_of` meets its contract. Assumes nothing.
+-- `uppinalo::days::uppinalo_fields_of` meets its contract.
 use mathlib.Core.Path.{sym, ap, _∙_}
 use Rattle.uppinalo.specs.Days.{fieldsByCode, ofFields}
 use Rattle.codes.specs.declared.CodedCalendar.{CodedCalendar}

@@ -1,4 +1,4 @@
--- `uppinalo::offset_runs::no_run` meets its contract. Assumes nothing.
+-- `uppinalo::offset_runs::no_run` meets its contract.
 
 use borrow.Author.Needs.{needs}
 use Rattle.uppinalo.proofs.offset_runs.no_run.Statement.{statement}

@@ -1,4 +1,4 @@
--- `uppinalo::offset_runs::uppinalo_read_doubles` meets its contract. Assumes nothing.
+-- `uppinalo::offset_runs::uppinalo_read_doubles` meets its contract.
 use mathlib.Core.Path.{sym, ap, _∙_}
 use Rattle.axis.specs.Axis.{readDoubleOn}
 use Rattle.uppinalo.specs.Runs.{runOn, destinationOn}

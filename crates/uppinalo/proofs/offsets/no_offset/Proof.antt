@@ -1,4 +1,4 @@
--- `uppinalo::offsets::no_offset` meets its contract. Assumes nothing.
+-- `uppinalo::offsets::no_offset` meets its contract.
 use lib.IntN.{pos}
 use borrow.Author.Needs.{needs}
 use Rattle.uppinalo.proofs.offsets.no_offset.Statement.{statement}

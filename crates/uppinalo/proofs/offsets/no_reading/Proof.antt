@@ -1,4 +1,4 @@
--- `uppinalo::offsets::no_reading` meets its contract. Assumes nothing.
+-- `uppinalo::offsets::no_reading` meets its contract.
 use mathlib.Core.Bool.{false}
 use lib.IntN.{pos}
 use borrow.Author.Needs.{needs}

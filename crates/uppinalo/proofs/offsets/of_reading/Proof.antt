@@ -1,4 +1,4 @@
--- `uppinalo::offsets::of_reading` meets its contract. Assumes nothing.
+-- `uppinalo::offsets::of_reading` meets its contract.
 use mathlib.Core.Path.{sym, ap, _∙_}
 use mir.Syntax.{w64}
 use mir.ValLaws.{toZ-ofZ}

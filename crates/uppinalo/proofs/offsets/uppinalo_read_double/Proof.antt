@@ -1,4 +1,4 @@
--- `uppinalo::offsets::uppinalo_read_double` meets its contract. Assumes nothing.
+-- `uppinalo::offsets::uppinalo_read_double` meets its contract.
 use mathlib.Core.Path.{sym, ap, _∙_}
 use Rattle.axis.specs.Axis.{readDoubleOn}
 use Rattle.axis_types.specs.declared.Axis.{Axis}

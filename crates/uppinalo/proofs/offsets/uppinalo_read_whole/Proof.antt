@@ -1,4 +1,4 @@
--- `uppinalo::offsets::uppinalo_read_whole` meets its contract. Assumes nothing.
+-- `uppinalo::offsets::uppinalo_read_whole` meets its contract.
 use mathlib.Core.Path.{sym, ap, _∙_}
 use Rattle.axis.specs.Axis.{readWholeOn}
 use Rattle.axis_types.specs.declared.Axis.{Axis}

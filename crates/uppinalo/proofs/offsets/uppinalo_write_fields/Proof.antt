@@ -1,4 +1,4 @@
--- `uppinalo::offsets::uppinalo_write_fields` meets its contract. Assumes nothing.
+-- `uppinalo::offsets::uppinalo_write_fields` meets its contract.
 use mathlib.Core.Path.{sym, ap, _∙_}
 use Rattle.axis.specs.Axis.{writeFieldsOn}
 use Rattle.axis_types.specs.declared.Axis.{Axis}

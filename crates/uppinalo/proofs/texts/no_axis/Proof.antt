@@ -1,4 +1,4 @@
--- `uppinalo::texts::no_axis` meets its contract. Assumes nothing.
+-- `uppinalo::texts::no_axis` meets its contract.
 use lib.IntN.{pos}
 use borrow.Author.Needs.{needs}
 use Rattle.uppinalo.proofs.texts.no_axis.Statement.{statement}

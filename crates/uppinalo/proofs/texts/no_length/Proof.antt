@@ -1,4 +1,4 @@
--- `uppinalo::texts::no_length` meets its contract. Assumes nothing.
+-- `uppinalo::texts::no_length` meets its contract.
 
 use borrow.Author.Needs.{needs}
 use Rattle.uppinalo.proofs.texts.no_length.Statement.{statement}

@@ -1,4 +1,4 @@
--- `uppinalo::texts::of_instant` meets its contract. Assumes nothing.
+-- `uppinalo::texts::of_instant` meets its contract.
 use mathlib.Core.Path.{sym, ap, _∙_}
 use mathlib.Core.Bool.{true, false}
 use lib.IntN.{pos}

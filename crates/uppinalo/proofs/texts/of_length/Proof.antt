@@ -1,4 +1,4 @@
--- `uppinalo::texts::of_length` meets its contract. Assumes nothing.
+-- `uppinalo::texts::of_length` meets its contract.
 use mathlib.Core.Path.{sym, ap, _∙_}
 use Rattle.uppinalo.specs.Texts.{ofLength}
 use borrow.Author.Needs.{needs}

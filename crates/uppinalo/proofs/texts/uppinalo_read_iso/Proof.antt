@@ -1,4 +1,4 @@
--- `uppinalo::texts::uppinalo_read_iso` meets its contract. Assumes nothing.
+-- `uppinalo::texts::uppinalo_read_iso` meets its contract.
 use mathlib.Core.Path.{ap, _∙_}
 use Rattle.uppinalo.specs.Texts.{ofInstant}
 use borrow.Author.Needs.{needs}

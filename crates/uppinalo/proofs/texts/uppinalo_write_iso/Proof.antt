@@ -1,4 +1,4 @@
--- `uppinalo::texts::uppinalo_write_iso` meets its contract. Assumes nothing.
+-- `uppinalo::texts::uppinalo_write_iso` meets its contract.
 use mathlib.Core.Path.{sym, ap, _∙_}
 use lib.IntN.{ℤ}
 use mir.Syntax.{w64}
