@@ -80,7 +80,7 @@ def main():
         f"{agreements(cases)}\n"
         "What each makes of a units text in `standard`, at offset 0:\n\n"
         f"{texts()}\n"
-        "Time for each offset, the best of five lots in one run and one thread, each answering in its own form:\n\n"
+        f"Time for each offset, the best of {timing.LOTS} lots in one run and one thread, each answering in its own form:\n\n"
         f"{times(cases, is_stub)}"
     )
     sys.stdout.write(text)

@@ -48,14 +48,14 @@ impl Refusal {
 
     pub fn words(self) -> &'static str {
         match self {
-            Refusal::TextTooLong => "the text has more than 128 bytes",
+            Refusal::TextTooLong => "the text is longer than 128 bytes",
             Refusal::UnknownCalendar => "the calendar is not one of the six",
-            Refusal::IllFormed => "the text does not follow its grammar, or a code names no period or mode",
+            Refusal::IllFormed => "the text is not of the form that its grammar gives, or a code names no period or mode",
             Refusal::NoSuchDate => "the date or the time of day does not exist in the calendar",
             Refusal::OutOfRange => "the year or the instant lies past -9999 to 9999",
             Refusal::Inexact => "no whole offset reads as the instant; in calendar mode, the double is not whole",
-            Refusal::NoRoom => "the lent room is too short",
-            Refusal::NotFinite => "the double is not finite",
+            Refusal::NoRoom => "too little room was lent",
+            Refusal::NotFinite => "the double is a NaN or infinite",
             Refusal::Other(_) => "a refusal that this crate has no words for",
         }
     }

@@ -53,7 +53,7 @@ def calendar_of(calendar: CalendarOrName) -> Calendar:
 
 
 def fields_of(instant: int, calendar: CalendarOrName) -> Fields:
-    """The fields of an instant, which is a count of microseconds from 1970-01-01T00:00:00 of its calendar."""
+    """The fields of an instant, which is a count of microseconds since the start of 1970 in its calendar."""
     known = calendar_of(calendar)
     answer = call["fields_of"](known, signed(instant, "an instant"))
     if answer.number:

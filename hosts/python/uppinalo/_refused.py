@@ -6,14 +6,14 @@ from typing import Optional
 
 #: The refusals by number, in plain words.
 WORDS = {
-    1: "the text has more than 128 bytes",
+    1: "the text is longer than 128 bytes",
     2: "the calendar is not one of the six",
-    3: "the text does not follow its grammar, or a code names no period or mode",
+    3: "the text is not of the form that its grammar gives, or a code names no period or mode",
     4: "the date or the time of day does not exist in the calendar",
     5: "the year or the instant lies past -9999 to 9999",
     6: "no whole offset reads as the instant; in calendar mode, the double is not whole",
-    7: "the lent room is too short",
-    8: "the double is not finite",
+    7: "too little room was lent",
+    8: "the double is a NaN or infinite",
 }
 
 
