@@ -73,6 +73,12 @@ def many_lines(count):
     return b"".join(line + b"\n" for line in chosen), b"".join(ANSWERS[line] for line in chosen)
 
 
+def whole_reads(reads):
+    """Lines that are the bytes of so many full reads, and the answers to them."""
+    count, rest = divmod(reads * CHUNK, len(ASKED))
+    return ASKED * count + b"\n" * rest, ANSWER * count + ANSWERS[b""] * rest
+
+
 class Child:
     """The program while it runs, with pipes on its three sides."""
 
@@ -182,14 +188,24 @@ class Pauses(unittest.TestCase):
             child.send(ASKED[:-1])
             self.assertEqual(child.end(), (ANSWER, ""))
 
-    def test_whole_chunks(self):
-        """The bytes of exactly one full read, and of four."""
-        for chunks in [1, 4]:
-            count, rest = divmod(chunks * CHUNK, len(ASKED))
-            given, expected = ASKED * count + b"\n" * rest, ANSWER * count + ANSWERS[b""] * rest
-            with Child() as child:
-                self.assertEqual(child.answers_to([given], count + rest), expected)
-                self.assertEqual(child.end(), (b"", ""))
+    def test_full_read(self):
+        """The input holds exactly what one read takes, before the program starts."""
+        given, expected = whole_reads(1)
+        reader, writer = os.pipe()
+        self.assertEqual(os.write(writer, given), CHUNK)
+        with Child(stdin=reader) as child:
+            os.close(reader)
+            self.assertTrue(child.answers(expected.count(b"\n")) == expected)
+            os.write(writer, ASKED)
+            self.assertEqual(child.answers(1), ANSWER)
+            os.close(writer)
+            self.assertEqual(child.end(), (b"", ""))
+
+    def test_full_reads(self):
+        given, expected = whole_reads(4)
+        with Child() as child:
+            self.assertTrue(child.answers_to([given], expected.count(b"\n")) == expected)
+            self.assertEqual(child.end(), (b"", ""))
 
 
 class Waiting(unittest.TestCase):
