@@ -20,7 +20,7 @@ end-length true = omega arith
 end-length false = omega arith
 
 module _ (c : Calendar) (t : ℤ) where
-  text-length : length (textOf (fieldsIn c t)) ≤ 28
+  pub text-length : length (textOf (fieldsIn c t)) ≤ 28
   text-length = let w = utcDate (fieldsIn c t) in omega (arith, iso-length w)
 
   -- with what stands after it

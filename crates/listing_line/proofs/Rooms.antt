@@ -1,22 +1,12 @@
 -- Texts in lent room: one text, and one after another.
-use Prim.Native.Nat.{ℕ, _+_, _-_, _≤_, _<_}
+use Prim.Native.Nat.{ℕ, _-_, _≤_}
 use native.Mathlib.Omega.{arith}
 use mathlib.Core.Path.{_≡_, sym, ap, ap₂, _∙_}
 use mathlib.Core.List.{List, [], _++_, append-assoc, append-nil}
 use lib.ListN.{length, take, drop, length-append, length-drop, drop-of-length-le}
 use lib.Seq.{take-all, take-length, take-at, drop-at, drop-drop}
-use borrow.Author.Tests.{le-leb, lt-leb}
 use Rattle.iso_form.specs.Form.{over}
 use Rattle.iso_form.proofs.Laws.{whole-over}
-use Rattle.listing_line.specs.Line.{lengthIn}
-
-pub short-length : (text room : List ℕ) → length room < length text → 0 ≡ lengthIn text room
-unfolding lengthIn
-short-length text room h = rw (lt-leb (length text) (length room) h)
-
-pub whole-length : (text room : List ℕ) → length text ≤ length room → length text ≡ lengthIn text room
-unfolding lengthIn
-whole-length text room h = rw (le-leb (length text) (length room) h)
 
 -- what a copy leaves
 pub copied : (text room : List ℕ) → length text ≤ length room → take (length text) text ++ drop (length text) room ≡ over text room
@@ -33,7 +23,7 @@ over-both a b room h =
 
 -- what is left once a text stands at the front, and another is put into the rest
 module _ (a b room xs ys : List ℕ) (n : ℕ) (e : n ≡ length a) (f : xs ≡ a ++ drop (length a) room) where
-  rest : take (length xs - n) (drop n xs) ≡ drop (length a) room
+  pub rest : take (length xs - n) (drop n xs) ≡ drop (length a) room
   rest = take-all (length xs - n) (drop n xs) (omega (arith, length-drop n xs)) ∙ (ap (drop n) f ∙ drop-at a (drop (length a) room) n (sym e))
 
   left : drop (length xs - n) (drop n xs) ≡ []
@@ -45,14 +35,6 @@ module _ (a b room xs ys : List ℕ) (n : ℕ) (e : n ≡ length a) (f : xs ≡ 
   put-after h g =
       ap₂ _++_ (ap (take n) f ∙ take-at a (drop (length a) room) n (sym e)) (ap (_++_ ys) left ∙ (append-nil ys ∙ (g ∙ ap (over b) rest)))
       ∙ over-both a b room h
-
-  -- and its length
-  pub length-after : (r : ℕ) → length (a ++ b) ≤ length room → r ≡ lengthIn b (take (length xs - n) (drop n xs)) → n + r ≡ length (a ++ b)
-  length-after r h g =
-      let l = length-append a b in
-      let d = length-drop (length a) room in
-      let w = g ∙ (ap (lengthIn b) rest ∙ sym (whole-length b (drop (length a) room) (omega arith))) in
-      omega arith
 
 -- a text at the front of what it was put into
 module _ (text room out : List ℕ) (n : ℕ) (e : n ≡ length text) (f : out ≡ over text room) (h : length text ≤ length room) where

@@ -3,7 +3,7 @@
 --   shown-fields    so it has fields, and these are the ones whose text is printed
 --   one-more        a line has one text more than bars
 --   line-length     1 to 37 bytes are printed
---   answer-within   an answer is no longer than the room
+--   room-enough     37 bytes are room for what any line prints, so none is refused there
 use Prim.Native.Nat.{ℕ, suc, _+_, _≤_}
 use native.Mathlib.Omega.{arith}
 use mathlib.Core.Path.{_≡_, refl, ap, _∙_}
@@ -13,7 +13,6 @@ use mathlib.Core.Option.{Option, none, some}
 use lib.Dec.{leb, ltb, eqb}
 use lib.IntN.{ℤ}
 use lib.ListN.{length, length-append}
-use borrow.Author.Tests.{leb-true}
 use Rattle.grammar.specs.Reader.{read}
 use Rattle.grammar.specs.Rules.{bytes}
 use Rattle.refusal.specs.Number.{numberOf}
@@ -29,11 +28,13 @@ use Rattle.axis_types.specs.declared.Offset.{Offset}
 use Rattle.axis.proofs.Demands.{read-inside}
 use Rattle.axis_text.specs.Units.{readUnits}
 use Rattle.axis_text.specs.declared.AxisAnswer.{AxisAnswer}
-use Rattle.iso_form.specs.Form.{twoDigits}
+use Rattle.iso_form.specs.Form.{twoDigits, lengthAnswer}
+use Rattle.iso_form.specs.declared.LengthAnswer.{LengthAnswer}
+use Rattle.iso_form.proofs.Laws.{whole-answer}
 use Rattle.iso_text.specs.Iso.{textOf}
 use Rattle.offset_text.specs.OffsetRule.{offset}
 use Rattle.listing_line.specs.declared.LineAnswer.{LineAnswer}
-use Rattle.listing_line.specs.Line.{onFirst, parted, lineReading, onAxis, withOffset, ofParts, lineAnswer, shortNumber, refusedText, fieldsIn, roundedText, newline, answerText, lineText, lengthIn}
+use Rattle.listing_line.specs.Line.{onFirst, parted, lineReading, onAxis, withOffset, ofParts, lineAnswer, shortNumber, refusedText, fieldsIn, roundedText, newline, answerText, lineText}
 use Rattle.listing_line.proofs.Instants.{shown-length}
 
 -- ---- a line shows an instant of the range
@@ -112,11 +113,5 @@ pub line-length : (s : List ℕ) → (1 ≤ length (lineText s)) × (length (lin
 unfolding lineText
 line-length s = let l = length-append (answerText (lineAnswer s)) newline in (omega arith, printed-length (lineAnswer s))
 
--- an answer is no longer than the room
-pub answer-within : (text room : List ℕ) → lengthIn text room ≤ length room
-unfolding lengthIn
-answer-within text room = go (leb (length text) (length room)) refl
-  where
-    go : (b : Bool) → leb (length text) (length room) ≡ b → cond b (length text) 0 ≤ length room
-    go true e = leb-true (length text) (length room) e
-    go false e = omega arith
+pub room-enough : (s room : List ℕ) → 37 ≤ length room → lengthAnswer (lineText s) room ≡ LengthAnswer.Is (length (lineText s))
+room-enough s room h = let l = line-length s .1 in whole-answer (lineText s) room (omega arith)

@@ -93,8 +93,3 @@ answerText (LineAnswer.Refused r) = refusedText r
 
 unfoldable pub lineText : List ℕ → List ℕ
 lineText line = answerText (lineAnswer line) ++ newline
-
--- ---- a text put into room: its length, and 0 where the room is too short (`over` of crate `iso_form` is what the room then holds)
-
-unfoldable pub lengthIn : List ℕ → List ℕ → ℕ
-lengthIn text room = cond (leb (length text) (length room)) (length text) 0

@@ -8,8 +8,8 @@ ghost use Prim.Native.Nat.{_+_, _≤_, _<_};
 ghost use lib.ListN.{length};
 ghost use Rattle.instant.specs.Instant.{inRange};
 ghost use Rattle.grammar.specs.Rules.{bytes as bytesOf};
-ghost use Rattle.iso_form.specs.Form.{twoDigits, over};
-ghost use Rattle.listing_line.specs.Line.{lineReading, withOffset, lineAnswer, refusedText, roundedText, newline, answerText, lineText, lengthIn};
+ghost use Rattle.iso_form.specs.Form.{twoDigits, lengthAnswer, over};
+ghost use Rattle.listing_line.specs.Line.{lineReading, withOffset, lineAnswer, refusedText, roundedText, newline, answerText, lineText};
 ghost use Rattle.listing_line.specs.declared.LineAnswer.{LineAnswer as Answer};
 ghost use Rattle.listing_line.specs.Closed.{BarsOf};
 use axis_text::AxisAnswer;
@@ -94,14 +94,15 @@ pub fn read_line(line: &[u8]) -> LineAnswer
 }
 
 // Puts a text at the front of the room, where there is room for it.
-fn put(text: &[u8], room: &mut [u8]) -> usize
-    ensures { λ r. ⌜ r ≡ lengthIn (now (text .entry)) (now (room .entry)) ⌝ }
+fn put(text: &[u8], room: &mut [u8]) -> LengthAnswer
+    ensures { λ r. ⌜ r ≡ lengthAnswer (now (text .entry)) (now (room .entry)) ⌝ }
     ensures { λ _. ⌜ now (room .exit) ≡ over (now (text .entry)) (now (room .entry)) ⌝ }
 {
     if room.len() < text.len() {
-        return 0;
+        return LengthAnswer::Refused(Refusal::NoRoom);
     }
-    return bytes::copy(text, room);
+    let n = bytes::copy(text, room);
+    return LengthAnswer::Is(n);
 }
 
 fn one_digit(n: u32) -> [u8; 10]
@@ -129,8 +130,8 @@ fn two_digits(n: u32) -> [u8; 11]
     ]
 }
 
-fn put_refused(r: Refusal, room: &mut [u8]) -> usize
-    ensures { λ n. ⌜ n ≡ lengthIn (refusedText r ++ newline) (now (room .entry)) ⌝ }
+fn put_refused(r: Refusal, room: &mut [u8]) -> LengthAnswer
+    ensures { λ n. ⌜ n ≡ lengthAnswer (refusedText r ++ newline) (now (room .entry)) ⌝ }
     ensures { λ _. ⌜ now (room .exit) ≡ over (refusedText r ++ newline) (now (room .entry)) ⌝ }
 {
     let n = refusal::number(r);
@@ -142,15 +143,16 @@ fn put_refused(r: Refusal, room: &mut [u8]) -> usize
     return put(&text, room);
 }
 
-// Puts what stands after ISO text.
+// Puts what stands after ISO text into room that is long enough.
 fn put_end(exact: bool, room: &mut [u8]) -> usize
-    ensures { λ r. ⌜ r ≡ lengthIn (roundedText exact ++ newline) (now (room .entry)) ⌝ }
+    requires { ⌜ 9 ≤ length (now room) ⌝ }
+    ensures { λ r. ⌜ r ≡ length (roundedText exact ++ newline) ⌝ }
     ensures { λ _. ⌜ now (room .exit) ≡ over (roundedText exact ++ newline) (now (room .entry)) ⌝ }
 {
     if exact {
-        return put(b"\n", room);
+        return bytes::copy(b"\n", room);
     }
-    return put(b" rounded\n", room);
+    return bytes::copy(b" rounded\n", room);
 }
 
 // Puts ISO text and what stands after it into room that is long enough.
@@ -166,9 +168,9 @@ fn put_instant(c: Calendar, t: i64, exact: bool, room: &mut [u8]) -> usize
     return n + put_end(exact, &mut room[n..]);
 }
 
-fn put_shown(c: Calendar, t: i64, exact: bool, room: &mut [u8]) -> usize
+fn put_shown(c: Calendar, t: i64, exact: bool, room: &mut [u8]) -> LengthAnswer
     requires { ⌜ inRange c t ≡ true ⌝ }
-    ensures { λ r. ⌜ r ≡ lengthIn (answerText (Answer.Shows c t exact) ++ newline) (now (room .entry)) ⌝ }
+    ensures { λ r. ⌜ r ≡ lengthAnswer (answerText (Answer.Shows c t exact) ++ newline) (now (room .entry)) ⌝ }
     ensures { λ _. ⌜ now (room .exit) ≡ over (answerText (Answer.Shows c t exact) ++ newline) (now (room .entry)) ⌝ }
 {
     let mut text = [0u8; 37];
@@ -178,9 +180,9 @@ fn put_shown(c: Calendar, t: i64, exact: bool, room: &mut [u8]) -> usize
 }
 
 // Puts what is printed for a line, its newline too, at the front of the room, and answers how many bytes these are. Room beyond them
-// keeps its bytes. Room that is too short keeps all of them, and the answer is 0.
-pub fn answer(line: &[u8], room: &mut [u8]) -> usize
-    ensures { λ r. ⌜ r ≡ lengthIn (lineText (now (line .entry))) (now (room .entry)) ⌝ }
+// keeps its bytes; room that is too short is refused, and keeps all of them. 37 bytes are enough for any line.
+pub fn answer(line: &[u8], room: &mut [u8]) -> LengthAnswer
+    ensures { λ r. ⌜ r ≡ lengthAnswer (lineText (now (line .entry))) (now (room .entry)) ⌝ }
     ensures { λ _. ⌜ now (room .exit) ≡ over (lineText (now (line .entry))) (now (room .entry)) ⌝ }
 {
     match read_line(line) {

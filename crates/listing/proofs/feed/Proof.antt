@@ -8,10 +8,10 @@ use Rattle.listing.proofs.feed.Statement.{statement}
 use Rattle.listing.proofs.feed.Tie as tie
 
 abbrev Inv-loop : tie.InvT-loop
-Inv-loop chunk line₀ out₀ gathered₀ used₀ i₀ line out gathered used i = (length line ≡ length line₀) × (length out ≡ length out₀) × (64 ≤ length out₀) × (gathered ≤ length line₀) × (i ≤ length chunk)
+Inv-loop chunk line₀ out₀ begun gathered₀ used₀ i₀ line out gathered used i = (length line ≡ length line₀) × (length out ≡ length out₀) × (64 ≤ length out₀) × (gathered ≤ length line₀) × (i ≤ length chunk)
 
 abbrev μ-loop : tie.MeasureT-loop
-μ-loop chunk line₀ out₀ gathered₀ used₀ i₀ line out gathered used i = length chunk - i
+μ-loop chunk line₀ out₀ begun gathered₀ used₀ i₀ line out gathered used i = length chunk - i
 
 loop-holds : tie.Need-loop-holds Inv-loop μ-loop
 loop-holds c = (refl, refl, omega arith, omega arith, omega arith)
@@ -28,6 +28,12 @@ feed-spec =
     (λ c. search needs)
     (λ c. search needs)
     (λ c κs. search needs)
+    (λ c κs. search needs)
+    (λ c. search needs)
+    (λ c. search needs)
+    (λ c. search needs)
+    (λ c κs. search needs)
+    (λ c κs. search needs)
     (λ c. search needs)
     (λ c. search needs)
     (λ c. search needs)
@@ -35,6 +41,7 @@ feed-spec =
     (λ c. search needs)
     (λ c. search needs)
     (λ c. search needs)
+    (λ c κs. search needs)
     (λ c. search needs)
     (λ c. search needs)
     (λ c. search needs))

@@ -8,9 +8,9 @@ use mir.Syntax.{w64}
 use mir.Val.{toZ, ofZ}
 use mir.ValLaws.{toZ-ofZ}
 use Rattle.instant.specs.Instant.{inRange}
-use Rattle.iso_form.specs.Form.{over}
+use Rattle.iso_form.specs.Form.{lengthAnswer, over}
 use Rattle.listing_line.specs.declared.LineAnswer.{LineAnswer}
-use Rattle.listing_line.specs.Line.{lineAnswer, answerText, newline, lineText, lengthIn}
+use Rattle.listing_line.specs.Line.{lineAnswer, answerText, newline, lineText}
 use Rattle.listing_line.proofs.Theorems.{shown-inside}
 use Rattle.listing_line.proofs.answer.Statement.{statement}
 use Rattle.listing_line.proofs.answer.Tie as tie
@@ -34,7 +34,7 @@ returns c =
     let d = k .before .before in
     let a = d .before .before .before .args in
     let e = printed (a .line .now) _ (sym (k .r .given .1) ∙ d .read-line .ensures) in
-    (p .put-refused .ensures .0 ∙ ap (λ (t : List ℕ). lengthIn t (a .room .now)) e, p .put-refused .ensures .1 ∙ ap (λ (t : List ℕ). over t (a .room .now)) e)
+    (p .put-refused .ensures .0 ∙ ap (λ (t : List ℕ). lengthAnswer t (a .room .now)) e, p .put-refused .ensures .1 ∙ ap (λ (t : List ℕ). over t (a .room .now)) e)
 
 put-shown-requires : tie.Need-put-shown-requires
 put-shown-requires c κs = ap (inRange (c .before .before .c .given .0 .0)) (instant (c .before)) ∙ shown-inside _ _ _ _ (shows (c .before .before))
@@ -47,7 +47,7 @@ returns-2 c =
     let a = d .before .before .before .args in
     let g = k .c .given .0 in
     let e = ap (λ (z : ℤ). answerText (LineAnswer.Shows (g .0) z (g .1 .1 .0)) ++ newline) (instant (p .before .before)) ∙ printed (a .line .now) _ (sym (shows k)) in
-    (p .put-shown .ensures .0 ∙ ap (λ (t : List ℕ). lengthIn t (a .room .now)) e, p .put-shown .ensures .1 ∙ ap (λ (t : List ℕ). over t (a .room .now)) e)
+    (p .put-shown .ensures .0 ∙ ap (λ (t : List ℕ). lengthAnswer t (a .room .now)) e, p .put-shown .ensures .1 ∙ ap (λ (t : List ℕ). over t (a .room .now)) e)
 
 pub answer-spec : {M : Type 1} → statement M
 answer-spec =

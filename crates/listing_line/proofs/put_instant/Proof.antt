@@ -5,15 +5,15 @@ use native.Mathlib.Omega.{arith}
 use mathlib.Core.Path.{_≡_, sym, ap, _∙_}
 use mathlib.Core.List.{List, _++_, append-assoc}
 use lib.IntN.{ℤ}
-use lib.ListN.{length, drop, length-append}
+use lib.ListN.{length, drop, length-append, length-drop}
 use mir.Syntax.{w64}
 use mir.ValLaws.{toZ-ofZ}
 use Rattle.iso_form.specs.Form.{over}
 use Rattle.iso_form.specs.declared.LengthAnswer.{LengthAnswer}
 use Rattle.iso_text.specs.Iso.{textOf, writeIso, roomIso}
 use Rattle.listing_line.specs.Line.{fieldsIn, roundedText, newline}
-use Rattle.listing_line.proofs.Instants.{shown-length, written-length, written-room}
-use Rattle.listing_line.proofs.Rooms.{put-after, length-after}
+use Rattle.listing_line.proofs.Instants.{text-length, shown-length, written-length, written-room}
+use Rattle.listing_line.proofs.Rooms.{rest, put-after}
 use Rattle.listing_line.proofs.put_instant.Statement.{statement}
 use Rattle.listing_line.proofs.put_instant.Tie as tie
 
@@ -82,11 +82,22 @@ sub-put-end c = inside (c .before)
 part-put-end-start : tie.Need-part-put-end-start
 part-put-end-start c = inside (c .before)
 
+put-end-requires : tie.Need-put-end-requires
+put-end-requires c κs =
+    let k = c .before .before in
+    let w = writing k in
+    let s = text-length (start w .args .c) (start w .args .t) in
+    let e = ap length (rest (iso w) (end w) (room w) (filled w) (filled w) (k .n .given .0 .0) (count k) (filled-is w)) ∙ length-drop (length (iso w)) (room w) in
+    omega (arith, start w .pre .1)
+
 sum : (p : tie.After-put-end) → let k = p .before .before .before in k .n .given .0 .0 + p .put-end .result ≡ length (iso (writing k) ++ end (writing k))
 sum p =
     let k = p .before .before .before in
     let w = writing k in
-    length-after (iso w) (end w) (room w) (filled w) (p .put-end .last .1 .0) (k .n .given .0 .0) (count k) (filled-is w) (p .put-end .result) (fits w) (p .put-end .ensures .0)
+    let n = count k in
+    let r = p .put-end .ensures .0 in
+    let l = length-append (iso w) (end w) in
+    omega arith
 
 add-result : tie.Need-add-result
 add-result c =
@@ -117,7 +128,7 @@ put-instant-spec =
     sub-put-end
     part-put-end-start
     (λ c. search needs)
-    (λ c κs. search needs)
+    put-end-requires
     add-result
     (λ c. search needs)
     returns-2)

@@ -9,10 +9,10 @@ use lib.ListN.{length, replicate}
 use mir.Syntax.{w64}
 use mir.Val.{toZ, ofZ}
 use mir.ValLaws.{toZ-ofZ}
-use Rattle.iso_form.specs.Form.{over}
+use Rattle.iso_form.specs.Form.{lengthAnswer, over}
 use Rattle.iso_text.specs.Iso.{textOf}
 use Rattle.listing_line.specs.declared.LineAnswer.{LineAnswer}
-use Rattle.listing_line.specs.Line.{fieldsIn, roundedText, answerText, newline, lengthIn}
+use Rattle.listing_line.specs.Line.{fieldsIn, roundedText, answerText, newline}
 use Rattle.listing_line.proofs.Instants.{shown-length}
 use Rattle.listing_line.proofs.Rooms.{taken, reaches}
 use Rattle.listing_line.proofs.put_shown.Statement.{statement}
@@ -52,7 +52,7 @@ returns c =
     let q = c .before .before in
     let p = q .before .before .before .before .before in
     let e = taken (text p) (replicate 37 0) (made p) (p .put-instant .result - 0) (omega (arith, count p)) (made-is p) (short p) in
-    (q .put .ensures .0 ∙ ap (λ (t : List ℕ). lengthIn t (start p .args .room .now)) e, q .put .ensures .1 ∙ ap (λ (t : List ℕ). over t (start p .args .room .now)) e)
+    (q .put .ensures .0 ∙ ap (λ (t : List ℕ). lengthAnswer t (start p .args .room .now)) e, q .put .ensures .1 ∙ ap (λ (t : List ℕ). over t (start p .args .room .now)) e)
 
 pub put-shown-spec : {M : Type 1} → statement M
 put-shown-spec =
