@@ -22,6 +22,7 @@ edits:    # the must-fail edits that the gate leaves out to stay short: those in
 		[ ! -d $$crate/must-fail/more ] || mv $$crate/must-fail/more/*.edit $$crate/must-fail; \
 	done
 	@cd target/edits && rt must-fail
+	@docs/edits.py target/edits/target/must-fail
 
 lib:      # the archive and the shared object of include/uppinalo.h
 	rt staticlib uppinalo
