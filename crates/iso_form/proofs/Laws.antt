@@ -1,7 +1,7 @@
 -- The text as a part of 28 bytes, and what a copy of that part leaves in the room.
 use Prim.Native.Nat.{ℕ, _-_, _≤_, _<_}
 use native.Mathlib.Omega.{arith}
-use mathlib.Core.Path.{_≡_, refl, sym, ap₂, _∙_}
+use mathlib.Core.Path.{_≡_, refl, sym, ap, _∙_}
 use mathlib.Core.Bool.{Bool, true, false, cond}
 use mathlib.Core.List.{List, _∷_, _++_}
 use lib.ListN.{length, take, drop}
@@ -55,8 +55,12 @@ module _ (text room : List ℕ) (h : length text ≤ length room) where
   unfolding over
   whole-over = rw (le-leb (length text) (length room) h)
 
--- what a copy of the part to the front of the room leaves
-pub copied : (w : WrittenDate) (t room : List ℕ) (a n : ℕ) → a ≡ lead (w .negative) → t ≡ 45 ∷ body w → length (isoText w) ≤ length room → n ≡ length (take (28 - a) (drop a t)) → take n (take (28 - a) (drop a t)) ++ drop n room ≡ over (isoText w) room
-copied w t room a n p q h e =
+-- what a copy to the front of the room leaves
+pub copied : (text room : List ℕ) → length text ≤ length room → take (length text) text ++ drop (length text) room ≡ over text room
+copied text room h = ap (λ (t : List ℕ). t ++ drop (length text) room) (take-length text) ∙ sym (whole-over text room h)
+
+-- and a copy of the part that is the text
+pub part-copied : (w : WrittenDate) (t room : List ℕ) (a n : ℕ) → a ≡ lead (w .negative) → t ≡ 45 ∷ body w → length (isoText w) ≤ length room → n ≡ length (take (28 - a) (drop a t)) → take n (take (28 - a) (drop a t)) ++ drop n room ≡ over (isoText w) room
+part-copied w t room a n p q h e =
     let s : take (28 - a) (drop a t) ≡ isoText w = rw (p, q) (iso-part w) in
-    rw (e, s) (ap₂ _++_ (take-length (isoText w)) refl ∙ sym (whole-over (isoText w) room h))
+    rw (e, s) (copied (isoText w) room h)

@@ -4,13 +4,9 @@ use native.Mathlib.Omega.{arith}
 use mathlib.Core.Path.{_≡_, sym, ap, ap₂, _∙_}
 use mathlib.Core.List.{List, [], _++_, append-assoc, append-nil}
 use lib.ListN.{length, take, drop, length-append, length-drop, drop-of-length-le}
-use lib.Seq.{take-all, take-length, take-at, drop-at, drop-drop}
+use lib.Seq.{take-all, take-at, drop-at, drop-drop}
 use Rattle.iso_form.specs.Form.{over}
 use Rattle.iso_form.proofs.Laws.{whole-over}
-
--- what a copy leaves
-pub copied : (text room : List ℕ) → length text ≤ length room → take (length text) text ++ drop (length text) room ≡ over text room
-copied text room h = ap (λ (t : List ℕ). t ++ drop (length text) room) (take-length text) ∙ sym (whole-over text room h)
 
 -- a text, and then another after it
 pub over-both : (a b room : List ℕ) → length (a ++ b) ≤ length room → a ++ over b (drop (length a) room) ≡ over (a ++ b) room

@@ -40,7 +40,7 @@ use Rattle.codes.proofs.Back.{axis-back}
 use Rattle.uppinalo.specs.Offsets.{readOn}
 use Rattle.uppinalo.specs.Runs.{runOn, destinationOn}
 use Rattle.uppinalo.specs.Texts.{ofInstant, ofAxis}
-use Rattle.uppinalo.specs.Demands.{readAt, GivenInYears}
+use Rattle.uppinalo.specs.Demands.{GoodReference, readAt, GivenInYears}
 use Rattle.uppinalo.specs.declared.texts.UppinaloReading.{UppinaloReading}
 use Rattle.uppinalo.proofs.Boundary.{read-is, reading-at}
 
@@ -80,14 +80,14 @@ iso-inside name text c t exact n =
         (λ i. inRange (sym q i) (sym (ap (λ (r : UppinaloReading). r .instant) h) i)) ∙ written-inside b w u f
     go b w e (InstantAnswer.Refused r) f h = absurd (not-success r (ap (λ (q : UppinaloReading). q .number) h))
 
-units-inside : (name text : List ℕ) → ofAxis (readUnits name text) .number ≡ 0 → (x : Axis) × (ofAxis (readUnits name text) .axis ≡ axisCode x) × (inRange (x .calendar) (x .reference) ≡ true)
+units-inside : (name text : List ℕ) → ofAxis (readUnits name text) .number ≡ 0 → (x : Axis) × (ofAxis (readUnits name text) .axis ≡ axisCode x) × GoodReference x
 unfolding readUnits
 units-inside name text =
-    text-outcome AxisAnswer.Refused units axisOf name text (λ (a : AxisAnswer). ofAxis a .number ≡ 0 → (x : Axis) × (ofAxis a .axis ≡ axisCode x) × (inRange (x .calendar) (x .reference) ≡ true))
+    text-outcome AxisAnswer.Refused units axisOf name text (λ (a : AxisAnswer). ofAxis a .number ≡ 0 → (x : Axis) × (ofAxis a .axis ≡ axisCode x) × GoodReference x)
     (λ r h. absurd (not-success r h))
     (λ c u e. go c u (writtenInstant c (u .reference)) refl)
   where
-    go : (c : Calendar) (u : Units) (a : InstantAnswer) → writtenInstant c (u .reference) ≡ a → ofAxis (axisAt c u a) .number ≡ 0 → (x : Axis) × (ofAxis (axisAt c u a) .axis ≡ axisCode x) × (inRange (x .calendar) (x .reference) ≡ true)
+    go : (c : Calendar) (u : Units) (a : InstantAnswer) → writtenInstant c (u .reference) ≡ a → ofAxis (axisAt c u a) .number ≡ 0 → (x : Axis) × (ofAxis (axisAt c u a) .axis ≡ axisCode x) × GoodReference x
     go c u (InstantAnswer.Is t) f h = (record { calendar = c; period = u .period; mode = u .mode; reference = t }, refl, written-inside c (u .reference) t f)
     go c u (InstantAnswer.Refused r) f h = absurd (not-success r h)
 

@@ -1,4 +1,4 @@
-// The face of the library: the calls of include/uppinalo.h, thin, each with its complete promise. specs/Demands.antt states the three demands
+// The C boundary: the calls of include/uppinalo.h, thin, each with its complete promise. specs/Demands.antt states the three demands
 // of these promises, and proofs/Demands.antt proves them.
 pub mod days;
 pub mod offset_runs;

@@ -6,7 +6,7 @@ use mathlib.Core.Path.{_≡_, refl, sym, ap, _∙_}
 use lib.ListN.{length}
 use Rattle.iso_form.specs.declared.LengthAnswer.{LengthAnswer}
 use Rattle.iso_form.specs.Form.{isoText}
-use Rattle.iso_form.proofs.Laws.{lead-small, iso-length, short-answer, short-over, whole-answer, copied}
+use Rattle.iso_form.proofs.Laws.{lead-small, iso-length, short-answer, short-over, whole-answer, part-copied}
 use Rattle.iso_form.proofs.write_form.Statement.{statement}
 use Rattle.iso_form.proofs.write_form.Tie as tie
 
@@ -38,7 +38,7 @@ returns-2 c =
     let a = st .before .before .before .args in
     let h : length (isoText (a .w)) ≤ length (a .room .now) = omega (arith, sized st, c .before .before .before .before .before .before .if1 .left) in (
       ap LengthAnswer.Is (sym (sized st)) ∙ sym (whole-answer (isoText (a .w)) (a .room .now) h),
-      c .before .before .copy .ensures .1 ∙ copied (a .w) (st .before .text .result) (a .room .now) (st .start .result) _ (st .start .ensures) (st .before .text .ensures) h refl,
+      c .before .before .copy .ensures .1 ∙ part-copied (a .w) (st .before .text .result) (a .room .now) (st .start .result) _ (st .start .ensures) (st .before .text .ensures) h refl,
     )
 
 pub write-form-spec : {M : Type 1} → statement M

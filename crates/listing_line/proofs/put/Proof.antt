@@ -5,8 +5,7 @@ use Prim.Native.Nat.{_≤_}
 use mathlib.Core.Path.{sym, ap, _∙_}
 use lib.ListN.{length}
 use Rattle.iso_form.specs.declared.LengthAnswer.{LengthAnswer}
-use Rattle.iso_form.proofs.Laws.{short-answer, short-over, whole-answer}
-use Rattle.listing_line.proofs.Rooms.{copied}
+use Rattle.iso_form.proofs.Laws.{short-answer, short-over, whole-answer, copied}
 use Rattle.listing_line.proofs.put.Statement.{statement}
 use Rattle.listing_line.proofs.put.Tie as tie
 

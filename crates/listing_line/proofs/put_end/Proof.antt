@@ -6,8 +6,8 @@ use mathlib.Core.Bool.{Bool, true, false}
 use mathlib.Core.List.{_++_}
 use lib.ListN.{length}
 use Rattle.iso_form.specs.Form.{over}
+use Rattle.iso_form.proofs.Laws.{copied}
 use Rattle.listing_line.specs.Line.{roundedText, newline}
-use Rattle.listing_line.proofs.Rooms.{copied}
 use Rattle.listing_line.proofs.put_end.Statement.{statement}
 use Rattle.listing_line.proofs.put_end.Tie as tie
 
