@@ -5,8 +5,9 @@
  * Lent buffers do not overlap.
  *
  * number  1 text over 128 bytes    2 unknown calendar    3 ill-formed text, or no such period or mode
- *         4 no such date           5 out of range        6 no such whole offset, or a double that is not whole
- *         7 too little room        8 double not finite
+ *         4 no such date           5 out of range        6 no such whole offset or number, or what is read is not whole
+ *         7 too little room        8 double not finite   9 no whole number of records
+ *        10 not-a-time
  */
 #ifndef UPPINALO_H
 #define UPPINALO_H
@@ -76,6 +77,11 @@ uppinalo_offset_answer uppinalo_write_fields(uppinalo_axis axis, uppinalo_fields
 /* A run of n offsets, read whole or not at all into a destination with room for at least n instants. */
 uppinalo_run_answer uppinalo_read_wholes(uppinalo_axis axis, const int64_t *source, size_t n, int64_t *destination, size_t room);
 uppinalo_run_answer uppinalo_read_doubles(uppinalo_axis axis, const double *source, size_t n, int64_t *destination, size_t room);
+
+/* datetime64 arrays: records of 8 bytes, of the type that an identifier such as "<M8[ns]" names, and instants of proleptic_gregorian.
+ * Lengths of records are in bytes, and places and lengths of answers in records. Bytes of the room after the records stay. */
+uppinalo_run_answer uppinalo_read_datetime64(const uint8_t *identifier, size_t identifier_len, const uint8_t *records, size_t records_len, int64_t *destination, size_t room);
+uppinalo_run_answer uppinalo_write_datetime64(const uint8_t *identifier, size_t identifier_len, const int64_t *instants, size_t n, uint8_t *records, size_t records_room);
 
 #ifdef __cplusplus
 }

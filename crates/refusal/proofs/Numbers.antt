@@ -6,11 +6,11 @@ use native.Mathlib.Omega.{arith}
 use lib.ListN.{getD}
 use Rattle.refusal.specs.Number.{numberOf}
 use Rattle.refusal.specs.declared.Refusal.{Refusal}
-use Rattle.refusal.specs.declared.Refusal.the-variants.{TextTooLong, UnknownCalendar, IllFormed, NoSuchDate, OutOfRange, Inexact, NoRoom, NotFinite}
+use Rattle.refusal.specs.declared.Refusal.the-variants.{TextTooLong, UnknownCalendar, IllFormed, NoSuchDate, OutOfRange, Inexact, NoRoom, NotFinite, PartRecord, NotATime}
 
 -- the refusals in the order of their numbers, from 1
 refusals : List Refusal
-refusals = TextTooLong ∷ UnknownCalendar ∷ IllFormed ∷ NoSuchDate ∷ OutOfRange ∷ Inexact ∷ NoRoom ∷ NotFinite ∷ []
+refusals = TextTooLong ∷ UnknownCalendar ∷ IllFormed ∷ NoSuchDate ∷ OutOfRange ∷ Inexact ∷ NoRoom ∷ NotFinite ∷ PartRecord ∷ NotATime ∷ []
 
 numbered : ℕ → Refusal
 numbered n = getD refusals (n - 1) NotFinite
@@ -25,6 +25,8 @@ back OutOfRange = refl
 back Inexact = refl
 back NoRoom = refl
 back NotFinite = refl
+back PartRecord = refl
+back NotATime = refl
 
 pub one-number : (r q : Refusal) → numberOf r ≡ numberOf q → r ≡ q
 one-number r q e = sym (back r) ∙ (ap numbered e ∙ back q)

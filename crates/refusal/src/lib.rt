@@ -1,4 +1,4 @@
-// The refusals of document 01, "Numbers returned": why a call gives no result.
+// The refusals of document 01, "Numbers returned", and of document 02: why a call gives no result.
 // A reader may rely on `number`, which is the table's number.
 ghost use mathlib.Core.Path.{_≡_};
 ghost use Rattle.refusal.specs.Number.{numberOf};
@@ -12,6 +12,8 @@ pub enum Refusal {
     Inexact,
     NoRoom,
     NotFinite,
+    PartRecord,
+    NotATime,
 }
 
 // The number of a refusal; 0 is kept for success.
@@ -27,5 +29,7 @@ pub fn number(r: Refusal) -> u32
         Refusal::Inexact => return 6,
         Refusal::NoRoom => return 7,
         Refusal::NotFinite => return 8,
+        Refusal::PartRecord => return 9,
+        Refusal::NotATime => return 10,
     }
 }

@@ -13,6 +13,8 @@ pub enum Refusal {
     Inexact,
     NoRoom,
     NotFinite,
+    PartRecord,
+    NotATime,
     /// A number for which this crate has no name.
     Other(u32),
 }
@@ -28,6 +30,8 @@ impl Refusal {
             6 => Refusal::Inexact,
             7 => Refusal::NoRoom,
             8 => Refusal::NotFinite,
+            9 => Refusal::PartRecord,
+            10 => Refusal::NotATime,
             _ => Refusal::Other(number),
         }
     }
@@ -42,6 +46,8 @@ impl Refusal {
             Refusal::Inexact => 6,
             Refusal::NoRoom => 7,
             Refusal::NotFinite => 8,
+            Refusal::PartRecord => 9,
+            Refusal::NotATime => 10,
             Refusal::Other(number) => number,
         }
     }
@@ -53,9 +59,13 @@ impl Refusal {
             Refusal::IllFormed => "the text is not of the form that its grammar gives, or a code names no period or mode",
             Refusal::NoSuchDate => "the date or the time of day does not exist in the calendar",
             Refusal::OutOfRange => "the year or the instant lies past -9999 to 9999",
-            Refusal::Inexact => "no whole offset reads as the instant; in calendar mode, the double is not whole",
+            Refusal::Inexact => {
+                "no whole offset or number of the unit reads as the instant; the double is not whole in calendar mode; the number is no whole count of microseconds"
+            }
             Refusal::NoRoom => "too little room was lent",
             Refusal::NotFinite => "the double is a NaN or infinite",
+            Refusal::PartRecord => "the bytes are no whole number of records",
+            Refusal::NotATime => "the record is not-a-time",
             Refusal::Other(_) => "a refusal that this crate has no words for",
         }
     }

@@ -21,7 +21,7 @@ fn axis(calendar: Calendar, period: Period, mode: Mode, reference: i64) -> Axis 
 fn words() {
     use Refusal::*;
     let readme = include_str!("../../../README.md");
-    for refusal in [TextTooLong, UnknownCalendar, IllFormed, NoSuchDate, OutOfRange, Inexact, NoRoom, NotFinite] {
+    for refusal in [TextTooLong, UnknownCalendar, IllFormed, NoSuchDate, OutOfRange, Inexact, NoRoom, NotFinite, PartRecord, NotATime] {
         let row = format!("\n| {} | {} |\n", refusal.number(), refusal.words());
         assert!(readme.contains(&row), "{refusal}");
     }

@@ -11,9 +11,11 @@ WORDS = {
     3: "the text is not of the form that its grammar gives, or a code names no period or mode",
     4: "the date or the time of day does not exist in the calendar",
     5: "the year or the instant lies past -9999 to 9999",
-    6: "no whole offset reads as the instant; in calendar mode, the double is not whole",
+    6: "no whole offset or number of the unit reads as the instant; the double is not whole in calendar mode; the number is no whole count of microseconds",
     7: "too little room was lent",
     8: "the double is a NaN or infinite",
+    9: "the bytes are no whole number of records",
+    10: "the record is not-a-time",
 }
 
 

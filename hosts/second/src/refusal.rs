@@ -1,4 +1,4 @@
-//! The refusals of document 01, "Numbers returned".
+//! The refusals of document 01, "Numbers returned", and of document 02.
 
 #[derive(Clone, Copy, PartialEq, Eq, Debug)]
 pub enum Refusal {
@@ -10,6 +10,8 @@ pub enum Refusal {
     Inexact = 6,
     NoRoom = 7,
     NotFinite = 8,
+    PartRecord = 9,
+    NotATime = 10,
 }
 
 impl Refusal {
