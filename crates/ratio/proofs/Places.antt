@@ -1,0 +1,55 @@
+-- The place of a number among the multiples.
+use mathlib.Core.Path.{_≡_, refl, sym, ap, _∙_}
+use Prim.Native.Nat.{ℕ, suc, _+_, _-_, _*_, _/_, _%_, _≤_, _<_}
+use native.Mathlib.Nat.{add-mul, mul-assoc, mul-le-mul-right, le-mul-of-pos-right}
+use native.Mathlib.Omega.{arith}
+use Rattle.ratio.specs.Multiples.{Place, Steps, Good, IsMultiple}
+use Rattle.ratio.specs.declared.Ratio.{Ratio}
+
+-- at most below + above steps
+pub steps-le : (step below above i : ℕ) → i ≤ below + above → i * step ≤ below * step + above * step
+steps-le step below above i h = omega (arith, mul-le-mul-right step h, add-mul below above step)
+
+module _ {from to below above : ℕ} (s : Steps from to below above) where
+  pub few-below : below ≤ 9223372036854775808
+  few-below = omega (arith, le-mul-of-pos-right below (s .positive), s .least)
+
+  pub few-above : above < 9223372036854775808
+  few-above = omega (arith, le-mul-of-pos-right above (s .positive), s .greatest)
+
+  pub steps-fit : (i : ℕ) → i ≤ below + above → i * from < 18446744073709551616
+  steps-fit i h = omega (arith, steps-le from below above i h, s .least, s .greatest)
+
+  pub steps-fit-to : (i : ℕ) → i ≤ below + above → 9223372036854775808 - below * to + i * to < 18446744073709551616
+  steps-fit-to i h = omega (arith, steps-le to below above i h, s .least-to, s .greatest-to)
+
+-- ---- u is sought among the multiples: n is the times that are found in what lies between the least multiple and u
+module _ (r : Ratio) (g : Good r) (u : ℕ) where
+  abbrev first : ℕ
+  first = 9223372036854775808 - r .below * r .from
+
+  pub from-first : (i : ℕ) → Place (r .from) (r .below) (r .above) u i → (first ≤ u) × (u - first ≡ i * r .from)
+  from-first i p = (omega (arith, p .is, g .steps .least), omega (arith, p .is, g .steps .least))
+
+  pub before-first : u < first → IsMultiple r u → ⊥
+  before-first h p = omega (arith, from-first (p .0) (p .1) .0)
+
+  module _ (n : ℕ) (times : (i : ℕ) → u - first ≡ i * r .from → n ≡ i) where
+    pub place-is : (i : ℕ) → Place (r .from) (r .below) (r .above) u i → n ≡ i
+    place-is i p = times i (from-first i p .1)
+
+    pub past-last : r .below + r .above < n → IsMultiple r u → ⊥
+    past-last h p = omega (arith, place-is (p .0) (p .1), p .1 .inside)
+
+    pub between-two : (n * r .from ≡ u - first → ⊥) → IsMultiple r u → ⊥
+    between-two h p = h (ap (λ (k : ℕ). k * r .from) (place-is (p .0) (p .1)) ∙ sym (from-first (p .0) (p .1) .1))
+
+  pub found : (n : ℕ) → first ≤ u → n ≤ r .below + r .above → n * r .from ≡ u - first → IsMultiple r u
+  found n h k e = (n, record { inside = k; is = omega (arith, e, g .steps .least) })
+
+-- half of a multiple of an even step
+pub half : (i step : ℕ) → step % 2 ≡ 0 → i * step / 2 ≡ i * (step / 2)
+half i step e =
+    let d : step ≡ step / 2 * 2 = omega (arith, e) in
+    let f : i * step ≡ i * (step / 2) * 2 = ap (λ (n : ℕ). i * n) d ∙ sym (mul-assoc i (step / 2) 2) in
+    omega (arith, f)

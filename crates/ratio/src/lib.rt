@@ -1,0 +1,82 @@
+// The multiples of one step exchanged for those of another: m * from for m * to, for each m from -below to above. Both lie in 64 bits.
+// A run divides nothing: the place of a number among the multiples is found by the reciprocal of half the step.
+// A reader may rely on specs/Multiples.antt.
+ghost use mathlib.Core.Path.{_≡_};
+ghost use mathlib.Core.Bool.{true, false, cond};
+ghost use Prim.Native.Nat.{ℕ, _+_, _*_, _/_, _≤_, _<_};
+ghost use lib.Dec.{ltb};
+ghost use Rattle.signed.specs.Bias.{biased};
+ghost use Rattle.ratio.specs.Multiples.{Steps, Place, reciprocalOf, IsRatio, Good, IsMultiple};
+
+pub struct Ratio {
+    pub from: u64,
+    pub to: u64,
+    pub below: u64,
+    pub above: u64,
+    pub reciprocal: u64,
+}
+
+// 2^64 divided by half the step, rounded up; 0 for small steps, which are not sought by it.
+fn reciprocal_of(step: u64) -> u64
+    ensures { λ r. ⌜ r ≡ reciprocalOf step ⌝ }
+{
+    if step < 6 {
+        return 0;
+    }
+    return 0xffff_ffff_ffff_ffff / (step / 2) + 1;
+}
+
+pub fn ratio_of(from: u64, to: u64, below: u64, above: u64) -> Ratio
+    requires { ⌜ Steps from to below above ⌝ }
+    ensures { λ r. ⌜ IsRatio r from to below above ⌝ }
+{
+    let reciprocal = reciprocal_of(from);
+    Ratio {
+        from,
+        to,
+        below,
+        above,
+        reciprocal,
+    }
+}
+
+// Of a multiple v of the step, how many times the step it is.
+fn times_in(r: Ratio, v: u64) -> u64
+    requires { ⌜ Good r ⌝ }
+    ensures { λ n. ⌜ ((i : ℕ) → v ≡ i * r .from → n ≡ i) ⌝ }
+{
+    if r.from == 1 {
+        return v;
+    }
+    let w = rounding::product(v / 2, r.reciprocal);
+    return w.high;
+}
+
+// Whether x is one of the multiples.
+pub fn has(r: Ratio, x: i64) -> bool
+    requires { ⌜ Good r ⌝ }
+    ensures found { λ b. ⌜ (b ≡ true → IsMultiple r (biased x)) ⌝ }
+    ensures missed { λ b. ⌜ (b ≡ false → IsMultiple r (biased x) → ⊥) ⌝ }
+{
+    let u = signed::biased(x);
+    let first = 0x8000_0000_0000_0000 - r.below * r.from;
+    if u < first {
+        return false;
+    }
+    let n = times_in(r, u - first);
+    if r.below + r.above < n {
+        return false;
+    }
+    return n * r.from == u - first;
+}
+
+// What x is exchanged for, which is one of the multiples.
+pub fn exchanged(r: Ratio, x: i64) -> i64
+    requires ratio { ⌜ Good r ⌝ }
+    requires known { ⌜ IsMultiple r (biased x) ⌝ }
+    ensures { λ y. ⌜ ((i : ℕ) → Place (r .from) (r .below) (r .above) (biased x) i → Place (r .to) (r .below) (r .above) (biased y) i) ⌝ }
+{
+    let first = 0x8000_0000_0000_0000 - r.below * r.from;
+    let n = times_in(r, signed::biased(x) - first);
+    signed::unbiased(0x8000_0000_0000_0000 - r.below * r.to + n * r.to)
+}
