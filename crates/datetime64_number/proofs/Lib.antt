@@ -1,0 +1,5 @@
+pub mod Products
+pub mod Years
+pub mod Rows
+pub mod Exchange
+pub mod Ratios
