@@ -10,6 +10,7 @@
 --   only-past       an offset is refused only because it leads out of the range
 --   read-between    a whole offset between two that are read is read
 --   from-start      reading from the start of the reference is reading from the reference
+--   from-start-written   writing from it is writing from the reference
 use mathlib.Core.Path.{_≡_, refl, sym, ap, _∙_}
 use mathlib.Core.Bool.{Bool, true, false, not, false≢true}
 use Prim.Native.Nat.{ℕ, _<_}
@@ -45,7 +46,7 @@ use Rattle.step.proofs.Theorems.{steps-exist, between-is, between-near, is-betw
 use Rattle.axis_types.specs.Reading.{isRead}
 use Rattle.axis_types.specs.declared.Reading.{Reading}
 use Rattle.axis_types.specs.declared.OffsetAnswer.{OffsetAnswer}
-use Rattle.calendar_axis.specs.Steps.{dateAt, onDay, readFrom, readSteps, offsetFrom, writeSteps}
+use Rattle.calendar_axis.specs.Steps.{dateAt, onDay, readFrom, readSteps, offsetFrom, writeFrom, writeSteps}
 use Rattle.calendar_axis.specs.Start.{StartOf}
 use Rattle.calendar_axis.specs.declared.Start.{Start}
 
@@ -185,3 +186,7 @@ start-time c R s h = omega (arith, h .time, time-small R)
 pub from-start : (part : Part) (c : Calendar) (R : ℤ) (s : Start) (n : ℤ) → StartOf c R s → readFrom part c (s .date) (s .time) n ≡ readSteps part c R n
 unfolding readSteps
 from-start part c R s n h = λ i. readFrom part c (h .date i) (h .time i) n
+
+pub from-start-written : (part : Part) (c : Calendar) (R : ℤ) (s : Start) (t : ℤ) → StartOf c R s → writeFrom part c (s .date) (s .time) t ≡ writeSteps part c R t
+unfolding writeSteps
+from-start-written part c R s t h = λ i. writeFrom part c (h .date i) (h .time i) t

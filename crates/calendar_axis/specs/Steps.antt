@@ -45,5 +45,10 @@ abbrev pub offsetFrom : StepAnswer → Bool → OffsetAnswer
 offsetFrom (StepAnswer.Is n) same = cond same (OffsetAnswer.Is n) (OffsetAnswer.Refused Inexact)
 offsetFrom StepAnswer.Nothing same = OffsetAnswer.Refused Inexact
 
+-- the steps from the date x, at the time of day s, to the instant t
+abbrev pub writeFrom : Part → Calendar → Date → ℕ → ℤ → OffsetAnswer
+writeFrom part c x s t = offsetFrom (stepsBetween part c x (dateAt c t)) (eqb s (timeOf t))
+
+-- the steps from the reference R
 unfoldable pub writeSteps : Part → Calendar → ℤ → ℤ → OffsetAnswer
-writeSteps part c R t = offsetFrom (stepsBetween part c (dateAt c R) (dateAt c t)) (eqb (timeOf R) (timeOf t))
+writeSteps part c R t = writeFrom part c (dateAt c R) (timeOf R) t

@@ -1,6 +1,6 @@
 // Calendar mode for months and years: one offset read as an instant, and an instant written as a whole offset, from a reference in the
-// range. A run finds the start of its steps once and reads each offset from it. A reader may rely on specs/Steps.antt and on the
-// theorems of proofs/Demands.antt.
+// range. A run finds the start of its steps once, and reads each offset or writes each instant from it. A reader may rely on
+// specs/Steps.antt and on the theorems of proofs/Demands.antt.
 ghost use mathlib.Core.Path.{_≡_};
 ghost use mathlib.Core.Bool.{true};
 ghost use Prim.Native.Nat.{_<_};
@@ -8,7 +8,7 @@ ghost use Rattle.instant.specs.Instant.{dayLength, inRange};
 ghost use Rattle.step.specs.Closed.{YearOf};
 ghost use Rattle.axis_types.specs.Reading.{isRead};
 ghost use Rattle.axis_types.specs.declared.Reading.{Reading};
-ghost use Rattle.calendar_axis.specs.Steps.{readFrom, readSteps, writeSteps};
+ghost use Rattle.calendar_axis.specs.Steps.{readFrom, readSteps, writeFrom, writeSteps};
 ghost use Rattle.calendar_axis.specs.Start.{StartOf};
 use axis_types::OffsetAnswer;
 use axis_types::Reading;
@@ -85,12 +85,11 @@ pub fn read_whole(c: Calendar, part: Part, reference: i64, n: i64) -> Reading
     read_from(c, part, start_of(c, reference), n)
 }
 
-// The whole offset that reads as an instant, both in the range; Inexact where there is none.
-pub fn write_instant(c: Calendar, part: Part, reference: i64, t: i64) -> OffsetAnswer
-    requires { ⌜ (inRange c reference ≡ true) × (inRange c t ≡ true) ⌝ }
-    ensures { λ r. ⌜ r ≡ writeSteps part c reference t ⌝ }
+// The whole offset from a start that reads as an instant of the range; Inexact where there is none.
+pub fn write_from(c: Calendar, part: Part, s: Start, t: i64) -> OffsetAnswer
+    requires { ⌜ YearOf c (s .date) (s .year) × (inRange c t ≡ true) ⌝ }
+    ensures { λ r. ⌜ r ≡ writeFrom part c (s .date) (s .time) t ⌝ }
 {
-    let s = start_of(c, reference);
     let e = start_of(c, t);
     let x = s.date;
     let d = e.date;
@@ -103,4 +102,12 @@ pub fn write_instant(c: Calendar, part: Part, reference: i64, t: i64) -> OffsetA
             return OffsetAnswer::Is(n);
         }
     }
+}
+
+// The whole offset that reads as an instant, both in the range; Inexact where there is none.
+pub fn write_instant(c: Calendar, part: Part, reference: i64, t: i64) -> OffsetAnswer
+    requires { ⌜ (inRange c reference ≡ true) × (inRange c t ≡ true) ⌝ }
+    ensures { λ r. ⌜ r ≡ writeSteps part c reference t ⌝ }
+{
+    write_from(c, part, start_of(c, reference), t)
 }

@@ -1,7 +1,8 @@
--- The two passes over a run, one offset more at a time. The offsets are of any kind and `read` is any reading.
+-- The two passes over a run, one element more at a time. The elements are of any kind, and `refusal` and `read` are any functions of them.
 use mathlib.Core.Path.{_≡_, refl, sym, ap, _∙_}
-use mathlib.Core.Bool.{Bool, true, false, cond}
+use mathlib.Core.Bool.{Bool, true, false, cond, false≢true}
 use mathlib.Core.List.{List, [], _∷_, _++_, map}
+use mathlib.Core.Option.{Option, none, some}
 use Prim.Native.Nat.{ℕ, zero, suc, _+_, _≤_, _<_}
 use native.Mathlib.Nat.{not-suc-le-zero, le-of-suc-le-suc}
 use native.Mathlib.Numerals.{add-one}
@@ -16,15 +17,14 @@ use mir.ValLaws.{toZ-ofZ}
 use borrow.Author.Tests.{ltb-false}
 use Rattle.refusal.specs.declared.Refusal.{Refusal}
 use Rattle.refusal.specs.declared.Refusal.the-variants.{NoRoom}
-use Rattle.axis_types.specs.Reading.{instantOf, isRead}
+use Rattle.axis_types.specs.Reading.{isNone, isRead, instantOf}
 use Rattle.axis_types.specs.declared.Reading.{Reading}
-use Rattle.axis_types.proofs.Answers.{was-read}
 use Rattle.axis.specs.Axis.{onGood}
 use Rattle.axis.specs.declared.AxisCheck.{AxisCheck}
 use Rattle.run_ends.specs.Each.{Each}
 use Rattle.runs.specs.declared.Check.{Check}
 use Rattle.runs.specs.declared.RunAnswer.{RunAnswer}
-use Rattle.runs.specs.Run.{markOf, after, checked, roundedCount, overlaid, checkedFirst, checkAnswer, chosen}
+use Rattle.runs.specs.Run.{after, firstRefused, markOf, checked, roundedCount, overlaid, checkedFirst, checkAnswer, chosen}
 
 -- the check of a run whose first i offsets are read
 abbrev pub from : ℕ → Check → Check
@@ -35,9 +35,9 @@ from-none : (s : Check) → s ≡ from 0 s
 from-none Check.AllRead = refl
 from-none (Check.Refused r place) = ap (Check.Refused r) (omega arith)
 
-from-read : (i : ℕ) (z : ℤ) (exact : Bool) (s : Check) → from i (after (Reading.At z exact) s) ≡ from (i + 1) s
-from-read i z exact Check.AllRead = refl
-from-read i z exact (Check.Refused r place) = ap (Check.Refused r) (omega arith)
+from-read : (i : ℕ) (s : Check) → from i (after none s) ≡ from (i + 1) s
+from-read i Check.AllRead = refl
+from-read i (Check.Refused r place) = ap (Check.Refused r) (omega arith)
 
 pub mark-le : (r : Reading) → markOf r ≤ 1
 mark-le (Reading.At z true) = omega arith
@@ -45,60 +45,66 @@ mark-le (Reading.At z false) = omega arith
 mark-le (Reading.Refused r) = omega arith
 
 -- ---- the pass that checks
--- the first i offsets are read
-pub record Checking {A : Type 0} (read : A → Reading) (xs : List A) (i : ℕ) : Type 0 where
+-- the first i elements are not refused
+pub record Checking {A : Type 0} (refusal : A → Option Refusal) (xs : List A) (i : ℕ) : Type 0 where
   pub within : i ≤ length xs
-  pub so-far : checked read xs ≡ from i (checked read (drop i xs))
+  pub so-far : firstRefused refusal xs ≡ from i (firstRefused refusal (drop i xs))
 
-module _ {A : Type 0} {read : A → Reading} {xs : List A} where
-  pub checking-starts : Checking read xs 0
-  checking-starts = record { within = omega arith; so-far = from-none (checked read xs) }
+module _ {A : Type 0} {refusal : A → Option Refusal} {xs : List A} where
+  pub checking-starts : Checking refusal xs 0
+  checking-starts = record { within = omega arith; so-far = from-none (firstRefused refusal xs) }
 
-  module _ {i : ℕ} (d : A) (k : Checking read xs i) (h : i < length xs) where
-    checking-at : (r : Reading) → read (getD xs i d) ≡ r → checked read xs ≡ from i (after r (checked read (drop (i + 1) xs)))
-    unfolding checked
-    checking-at r e =
-        let next : checked read (drop i xs) ≡ after (read (getD xs i d)) (checked read (drop (i + 1) xs)) = rw (add-one, drop-cons xs i d) in
-        k .so-far ∙ ap (from i) (next ∙ ap (λ (q : Reading). after q (checked read (drop (i + 1) xs))) e)
+  module _ {i : ℕ} (d : A) (k : Checking refusal xs i) (h : i < length xs) where
+    checking-at : (o : Option Refusal) → refusal (getD xs i d) ≡ o → firstRefused refusal xs ≡ from i (after o (firstRefused refusal (drop (i + 1) xs)))
+    unfolding firstRefused
+    checking-at o e =
+        let next : firstRefused refusal (drop i xs) ≡ after (refusal (getD xs i d)) (firstRefused refusal (drop (i + 1) xs)) = rw (add-one, drop-cons xs i d) in
+        k .so-far ∙ ap (from i) (next ∙ ap (λ (q : Option Refusal). after q (firstRefused refusal (drop (i + 1) xs))) e)
 
-    pub checking-on : {z : ℤ} {exact : Bool} → read (getD xs i d) ≡ Reading.At z exact → Checking read xs (i + 1)
-    checking-on {z} {exact} e = record { within = omega arith; so-far = checking-at (Reading.At z exact) e ∙ from-read i z exact (checked read (drop (i + 1) xs)) }
+    pub checking-on : refusal (getD xs i d) ≡ none → Checking refusal xs (i + 1)
+    checking-on e = record { within = omega arith; so-far = checking-at none e ∙ from-read i (firstRefused refusal (drop (i + 1) xs)) }
 
-    pub checking-stops : {r : Refusal} → read (getD xs i d) ≡ Reading.Refused r → Check.Refused r i ≡ checked read xs
-    checking-stops {r} e = sym (checking-at (Reading.Refused r) e ∙ ap (Check.Refused r) (omega arith))
+    pub checking-stops : {r : Refusal} → refusal (getD xs i d) ≡ some r → Check.Refused r i ≡ firstRefused refusal xs
+    checking-stops {r} e = sym (checking-at (some r) e ∙ ap (Check.Refused r) (omega arith))
 
-  pub checking-ends : {i : ℕ} → Checking read xs i → length xs ≤ i → Check.AllRead ≡ checked read xs
-  unfolding checked
-  checking-ends {i} k h = sym (k .so-far ∙ ap (λ (l : List A). from i (checked read l)) (drop-of-length-le xs h))
+  pub checking-ends : {i : ℕ} → Checking refusal xs i → length xs ≤ i → Check.AllRead ≡ firstRefused refusal xs
+  unfolding firstRefused
+  checking-ends {i} k h = sym (k .so-far ∙ ap (λ (l : List A). from i (firstRefused refusal l)) (drop-of-length-le xs h))
 
--- ---- what is read
-pub each-read : {A : Type 0} (read : A → Reading) (xs : List A) → Each (λ (x : A). isRead (read x) ≡ true) xs → Check.AllRead ≡ checked read xs
-unfolding checked
-each-read read [] h = refl
-each-read read (x ∷ xs) h = let r = was-read (read x) (h .0) in λ i. after (sym (r .2) i) (each-read read xs (h .1) i)
-
--- the first refusal, after offsets that are read
-pub first-refused : {A : Type 0} (read : A → Reading) (ys : List A) (y : A) (zs : List A) (r : Refusal) → Each (λ (x : A). isRead (read x) ≡ true) ys → read y ≡ Reading.Refused r → Check.Refused r (length ys) ≡ checked read (ys ++ y ∷ zs)
-unfolding checked
-first-refused read [] y zs r h e = λ i. after (sym e i) (checked read zs)
-first-refused read (x ∷ ys) y zs r h e = let q = was-read (read x) (h .0) in λ i. after (sym (q .2) i) (first-refused read ys y zs r (h .1) e i)
+-- ---- what is read: what is not refused
+was-none : (o : Option Refusal) → isNone o ≡ true → o ≡ none
+was-none none h = refl
+was-none (some r) h = absurd (false≢true h)
 
 -- where nothing is refused, each is read
-both-read : (r : Reading) (s : Check) → after r s ≡ Check.AllRead → (isRead r ≡ true) × (s ≡ Check.AllRead)
-both-read (Reading.At z exact) Check.AllRead e = (refl, refl)
-both-read (Reading.At z exact) (Check.Refused r place) e = absurd (let k : _≡_ {A = ℕ} 0 1 = cc in omega arith)
-both-read (Reading.Refused r) s e = absurd (let k : _≡_ {A = ℕ} 0 1 = cc in omega arith)
+both-none : (o : Option Refusal) (s : Check) → after o s ≡ Check.AllRead → (isNone o ≡ true) × (s ≡ Check.AllRead)
+both-none none Check.AllRead e = (refl, refl)
+both-none none (Check.Refused r place) e = absurd (let k : _≡_ {A = ℕ} 0 1 = cc in omega arith)
+both-none (some r) s e = absurd (let k : _≡_ {A = ℕ} 0 1 = cc in omega arith)
 
-pub each-checked : {A : Type 0} (read : A → Reading) (xs : List A) → checked read xs ≡ Check.AllRead → Each (λ (x : A). isRead (read x) ≡ true) xs
-unfolding checked
-each-checked read [] e = tt
-each-checked read (x ∷ xs) e = let b = both-read (read x) (checked read xs) e in (b .0, each-checked read xs (b .1))
+module _ {A : Type 0} (refusal : A → Option Refusal) where
+  pub each-read : (xs : List A) → Each (λ (x : A). isNone (refusal x) ≡ true) xs → Check.AllRead ≡ firstRefused refusal xs
+  unfolding firstRefused
+  each-read [] h = refl
+  each-read (x ∷ xs) h = λ i. after (sym (was-none (refusal x) (h .0)) i) (each-read xs (h .1) i)
 
--- the one at each place
-read-at : {A : Type 0} (read : A → Reading) (d : A) (xs : List A) (i : ℕ) → Each (λ (x : A). isRead (read x) ≡ true) xs → i < length xs → isRead (read (getD xs i d)) ≡ true
-read-at read d [] i e h = absurd (not-suc-le-zero h)
-read-at read d (x ∷ xs) zero e h = e .0
-read-at read d (x ∷ xs) (suc i) e h = read-at read d xs i (e .1) (le-of-suc-le-suc h)
+  -- the first refusal, after elements that are not refused
+  pub first-refused : (ys : List A) (y : A) (zs : List A) (r : Refusal) → Each (λ (x : A). isNone (refusal x) ≡ true) ys → refusal y ≡ some r → Check.Refused r (length ys) ≡ firstRefused refusal (ys ++ y ∷ zs)
+  unfolding firstRefused
+  first-refused [] y zs r h e = λ i. after (sym e i) (firstRefused refusal zs)
+  first-refused (x ∷ ys) y zs r h e = λ i. after (sym (was-none (refusal x) (h .0)) i) (first-refused ys y zs r (h .1) e i)
+
+  pub each-checked : (xs : List A) → firstRefused refusal xs ≡ Check.AllRead → Each (λ (x : A). isNone (refusal x) ≡ true) xs
+  unfolding firstRefused
+  each-checked [] e = tt
+  each-checked (x ∷ xs) e = let b = both-none (refusal x) (firstRefused refusal xs) e in (b .0, each-checked xs (b .1))
+
+  -- the one at each place
+  pub read-at : (d : A) (xs : List A) (i : ℕ) → firstRefused refusal xs ≡ Check.AllRead → i < length xs → isNone (refusal (getD xs i d)) ≡ true
+  unfolding firstRefused
+  read-at d [] i e h = absurd (not-suc-le-zero h)
+  read-at d (x ∷ xs) zero e h = both-none (refusal x) (firstRefused refusal xs) e .0
+  read-at d (x ∷ xs) (suc i) e h = read-at d xs i (both-none (refusal x) (firstRefused refusal xs) e .1) (le-of-suc-le-suc h)
 
 -- ---- the pass that writes
 module _ {A : Type 0} (read : A → Reading) where
@@ -134,7 +140,7 @@ module _ {A : Type 0} {read : A → Reading} {xs : List A} {ds : List ℤ} where
 
   module _ {now : List ℤ} {i : ℕ} (d : A) (w : Writing read xs ds now i) (h : i < length xs) where
     pub writing-read : isRead (read (getD xs i d)) ≡ true
-    writing-read = read-at read d xs i (each-checked read xs (w .all-read)) h
+    writing-read = read-at _ d xs i (w .all-read) h
 
     -- one instant more, as it is stored
     pub writing-on : {t : ℤ} → SFits w64 t → t ≡ instantOf (read (getD xs i d)) → Writing read xs ds (set now i (toZ w64 (ofZ w64 t))) (i + 1)
@@ -217,5 +223,5 @@ module _ {check k s : Check} (e : check ≡ s) (g : check ≡ k) where
   pub answered : {a : RunAnswer} (n r n′ r′ : ℕ) → a ≡ checkAnswer check n′ r′ → checkAnswer k n′ r′ ≡ checkAnswer k n r → a ≡ checkAnswer s n r
   answered n r n′ r′ h t = h ∙ (ap (λ (q : Check). checkAnswer q n′ r′) g ∙ (t ∙ ap (λ (q : Check). checkAnswer q n r) (sym g ∙ e)))
 
-  pub left : (written kept : List ℤ) → chosen k written kept ≡ chosen s written kept
+  pub left : {A : Type 0} (written kept : List A) → chosen k written kept ≡ chosen s written kept
   left written kept = ap (λ (q : Check). chosen q written kept) (sym g ∙ e)

@@ -25,7 +25,7 @@ pub struct RunAnswer {
     pub rounded: usize,
 }
 
-fn answer(check: Check, length: usize, rounded: usize) -> RunAnswer
+pub fn answer(check: Check, length: usize, rounded: usize) -> RunAnswer
     ensures { λ r. ⌜ r ≡ checkAnswer check length rounded ⌝ }
 {
     match check {

@@ -10,7 +10,7 @@ use borrow.Author.Tests.{lt-ltb, le-ltb}
 use Rattle.refusal.specs.declared.Refusal.{Refusal}
 use Rattle.refusal.specs.declared.Refusal.the-variants.{OutOfRange, NoRoom}
 use Rattle.instant.specs.Instant.{inRange}
-use Rattle.axis_types.specs.Reading.{isRead, instantOf}
+use Rattle.axis_types.specs.Reading.{refusalOf, isRead, instantOf}
 use Rattle.axis_types.specs.declared.Axis.{Axis}
 use Rattle.axis_types.specs.declared.Reading.{Reading}
 use Rattle.axis.specs.Axis.{axisCheck, onGood, readWholeOn, readDoubleOn, writeInstantOn, writeFieldsOn}
@@ -65,7 +65,7 @@ module _ {A : Type 0} (read : A → Reading) where
         → runAnswer read check xs ds ≡ record { number = ofReading r .number; place = length ys; length = 0; rounded = 0 }
     run-refused l ys y zs e h (Reading.At t exact) f k = absurd (k refl)
     run-refused l ys y zs e h (Reading.Refused r) f k =
-        answer-is (Check.Refused r (length ys)) (by-room (le-ltb (length ds) (length xs) l) ∙ (ap (checked read) e ∙ sym (first-refused read ys y zs r (each-number ys h) f)))
+        answer-is (Check.Refused r (length ys)) (by-room (le-ltb (length ds) (length xs) l) ∙ (ap (checked read) e ∙ sym (first-refused _ ys y zs r (each-number ys h) (ap refusalOf f))))
 
     run : RunByOffsets (λ (y : A). ofReading (read y)) xs ds (runAnswer read check xs ds) (runWritten read check xs ds)
     unfolding overlaid
@@ -75,7 +75,7 @@ module _ {A : Type 0} (read : A → Reading) where
           refused = λ l ys y zs e h k. run-refused l ys y zs e h (read y) refl k;
           read-all = λ l h.
               let each = each-number xs h in
-              let k : all ≡ Check.AllRead = by-room (le-ltb (length ds) (length xs) l) ∙ sym (each-read read xs each) in (
+              let k : all ≡ Check.AllRead = by-room (le-ltb (length ds) (length xs) l) ∙ sym (each-read _ xs each) in (
                 answer-is Check.AllRead k ∙ (λ i. record { number = 0; place = 0; length = length xs; rounded = count-is xs each i }),
                 ap (λ (q : Check). chosen q (overlaid read xs ds) ds) k ∙ (λ i. map (λ (y : A). instant-is (read y) i) xs ++ drop (length xs) ds),
               );

@@ -57,7 +57,7 @@ module _ {A : Type 0} (c : Calendar) (read : A → Reading) (inside : (y : A) (t
   destination-inside k xs ds = go (runCheck read k xs (length ds)) refl
     where
       go : (q : Check) → runCheck read k xs (length ds) ≡ q → checkAnswer q (length xs) (roundedCount read xs) .number ≡ 0 → Each (λ (t : ℤ). inRange c t ≡ true) (take (length xs) (chosen q (overlaid read xs ds) ds))
-      go Check.AllRead e h = subst (Each (λ (t : ℤ). inRange c t ≡ true)) (sym (take-at (map (λ (y : A). instantOf (read y)) xs) (drop (length xs) ds) (length xs) (length-map xs (λ (y : A). instantOf (read y))))) (each-inside xs (each-checked read xs (passed k (length xs) (length ds) (checked read xs) e .all-read)))
+      go Check.AllRead e h = subst (Each (λ (t : ℤ). inRange c t ≡ true)) (sym (take-at (map (λ (y : A). instantOf (read y)) xs) (drop (length xs) ds) (length xs) (length-map xs (λ (y : A). instantOf (read y))))) (each-inside xs (each-checked _ xs (passed k (length xs) (length ds) (checked read xs) e .all-read)))
       go (Check.Refused r place) e h = absurd (not-success r h)
 
 run-inside : {A : Type 0} (x : Axis) (read : Axis → A → Reading) → ((y : A) (t : ℤ) (exact : Bool) → read x y ≡ Reading.At t exact → inRange (x .calendar) t ≡ true) → (xs : List A) (ds : List ℤ) → runOn (codedAxis (axisCode x)) read xs ds .number ≡ 0

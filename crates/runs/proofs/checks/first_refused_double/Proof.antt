@@ -1,8 +1,9 @@
 -- `runs::checks::first_refused_double` meets its contract: proofs/Passes.antt.
-use mathlib.Core.Path.{_≡_, sym, _∙_}
+use mathlib.Core.Path.{_≡_, sym, ap, _∙_}
 use Prim.Native.Nat.{_-_}
 use lib.ListN.{length, getD}
-use lib.Ieee.{nan}
+use lib.Ieee.{Float, nan}
+use Rattle.axis_types.specs.Reading.{refusalOf}
 use Rattle.axis_types.specs.declared.Reading.{Reading}
 use Rattle.axis.specs.Axis.{readDoubleOn}
 use Rattle.runs.proofs.Passes.{Checking, checking-starts, checking-on, checking-stops, checking-ends}
@@ -11,14 +12,14 @@ use Rattle.runs.proofs.checks.first_refused_double.Statement.{statement
 use Rattle.runs.proofs.checks.first_refused_double.Tie as tie
 
 abbrev Inv-loop : tie.InvT-loop
-Inv-loop axis source i₀ i = Checking (readDoubleOn axis) source i
+Inv-loop axis source i₀ i = Checking (λ (x : Float). refusalOf (readDoubleOn axis x)) source i
 
 abbrev μ-loop : tie.MeasureT-loop
 μ-loop axis source i₀ i = length source - i
 
--- what is read of the offset at the place
-reading : (o : tie.After-read-double Inv-loop μ-loop) {r : Reading} → o .read-double .result ≡ r → let l = o .before .before .before in readDoubleOn (l .before .before .args .axis) (getD (l .before .before .args .source .now) (l .loop .i) nan) ≡ r
-reading o h = sym (o .read-double .ensures) ∙ h
+-- what is refused of the offset at the place
+reading : (o : tie.After-read-double Inv-loop μ-loop) {r : Reading} → o .read-double .result ≡ r → let l = o .before .before .before in refusalOf (readDoubleOn (l .before .before .args .axis) (getD (l .before .before .args .source .now) (l .loop .i) nan)) ≡ refusalOf r
+reading o h = ap refusalOf (sym (o .read-double .ensures) ∙ h)
 
 loop-holds : tie.Need-loop-holds Inv-loop μ-loop
 loop-holds c = checking-starts

@@ -1,10 +1,11 @@
 -- `runs::checks::first_refused_whole` meets its contract: proofs/Passes.antt.
 use mathlib.Core.Path.{_≡_, sym, ap, _∙_}
 use Prim.Native.Nat.{_-_}
-use lib.IntN.{pos}
+use lib.IntN.{ℤ, pos}
 use lib.ListN.{length, getD}
 use mir.Syntax.{w64}
 use mir.ValLaws.{toZ-ofZ}
+use Rattle.axis_types.specs.Reading.{refusalOf}
 use Rattle.axis_types.specs.declared.Reading.{Reading}
 use Rattle.axis.specs.Axis.{readWholeOn}
 use Rattle.runs.proofs.Passes.{Checking, checking-starts, checking-on, checking-stops, checking-ends}
@@ -13,14 +14,14 @@ use Rattle.runs.proofs.checks.first_refused_whole.Statement.{statement}
 use Rattle.runs.proofs.checks.first_refused_whole.Tie as tie
 
 abbrev Inv-loop : tie.InvT-loop
-Inv-loop axis source i₀ i = Checking (readWholeOn axis) source i
+Inv-loop axis source i₀ i = Checking (λ (n : ℤ). refusalOf (readWholeOn axis n)) source i
 
 abbrev μ-loop : tie.MeasureT-loop
 μ-loop axis source i₀ i = length source - i
 
--- what is read of the offset at the place
-reading : (o : tie.After-read-whole Inv-loop μ-loop) {r : Reading} → o .read-whole .result ≡ r → let l = o .before .before .before in readWholeOn (l .before .args .axis) (getD (l .before .args .source .now) (l .loop .i) (pos 0)) ≡ r
-reading o h = let l = o .before .before .before in sym (o .read-whole .ensures ∙ ap (readWholeOn (l .before .args .axis)) (toZ-ofZ w64 (getD (l .before .args .source .now) (l .loop .i) (pos 0)) (record { sfits = o .before .read-whole-arg .given }))) ∙ h
+-- what is refused of the offset at the place
+reading : (o : tie.After-read-whole Inv-loop μ-loop) {r : Reading} → o .read-whole .result ≡ r → let l = o .before .before .before in refusalOf (readWholeOn (l .before .args .axis) (getD (l .before .args .source .now) (l .loop .i) (pos 0))) ≡ refusalOf r
+reading o h = let l = o .before .before .before in ap refusalOf (sym (o .read-whole .ensures ∙ ap (readWholeOn (l .before .args .axis)) (toZ-ofZ w64 (getD (l .before .args .source .now) (l .loop .i) (pos 0)) (record { sfits = o .before .read-whole-arg .given }))) ∙ h)
 
 loop-holds : tie.Need-loop-holds Inv-loop μ-loop
 loop-holds c = checking-starts
