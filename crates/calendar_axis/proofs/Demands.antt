@@ -3,6 +3,7 @@
 --   moved           the date of the instant is that of the reference, moved at once by all the steps, and the time of day is kept
 --   written-reads   what is written reads as the instant, exactly
 --   written-fits    and is a 64-bit number
+--   written-near    and a small one
 --   read-writes     what reads as an instant is written
 --   only-inexact    an instant is refused only as inexact
 --   none-inexact    an instant of the range is refused where no 64-bit offset reads as it
@@ -13,11 +14,11 @@
 --   from-start-written   writing from it is writing from the reference
 use mathlib.Core.Path.{_≡_, refl, sym, ap, _∙_}
 use mathlib.Core.Bool.{Bool, true, false, not, false≢true}
-use Prim.Native.Nat.{ℕ, _<_}
+use Prim.Native.Nat.{ℕ, _≤_, _<_}
 use native.Mathlib.Omega.{arith}
 use lib.Dec.{eqb}
 use lib.IntN.{ℤ, pos, negsuc}
-use lib.Signed.{leZ, ltZ}
+use lib.Signed.{leZ, ltZ, mag}
 use mir.Syntax.{w64}
 use mir.Val.{SFits}
 use borrow.Author.Tests.{eq-eqb, eqb-true}
@@ -56,7 +57,7 @@ numbered c t h = record { inside = h; there = dates-exist c (dayOf t) }
 
 -- a date with a time of day is read where it lies in the years, and refused as past them elsewhere
 module _ (c : Calendar) (d : Date) (there : exists c d ≡ true) (s : ℕ) where
-  day-read : inYears (d .year) ≡ true → (v : ℤ) × (onDay (dayAnswer c d) s ≡ Reading.At v true)
+  pub day-read : inYears (d .year) ≡ true → (v : ℤ) × (onDay (dayAnswer c d) s ≡ Reading.At v true)
   day-read h = (instantAt (dayNumber c d) s, ap (λ (a : DayAnswer). onDay a s) (sym (date-there c d (dayNumber c d) h there (date-of-number c d h there))))
 
   day-past : inYears (d .year) ≡ false → onDay (dayAnswer c d) s ≡ Reading.Refused OutOfRange
@@ -133,8 +134,11 @@ module _ (part : Part) (c : Calendar) (R : ℤ) where
   pub written-reads : (t n : ℤ) → inRange c t ≡ true → writeSteps part c R t ≡ OffsetAnswer.Is n → readSteps part c R n ≡ Reading.At t true
   written-reads t n i h = let w = written t n h in reads n t i (between-is part c (dateAt c R) (dateAt c t) n (w .steps)) (w .time)
 
+  pub written-near : (t n : ℤ) → writeSteps part c R t ≡ OffsetAnswer.Is n → mag n ≤ 719999
+  written-near t n h = between-near part c (dateAt c R) (dateAt c t) n (written t n h .steps)
+
   pub written-fits : (t n : ℤ) → writeSteps part c R t ≡ OffsetAnswer.Is n → SFits w64 n
-  written-fits t n h = record { sfits = omega (arith, between-near part c (dateAt c R) (dateAt c t) n (written t n h .steps)) }
+  written-fits t n h = record { sfits = omega (arith, written-near t n h) }
 
   pub read-writes : (n t : ℤ) (exact : Bool) → inRange c R ≡ true → readSteps part c R n ≡ Reading.At t exact → writeSteps part c R t ≡ OffsetAnswer.Is n
   unfolding writeSteps

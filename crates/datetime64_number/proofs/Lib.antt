@@ -3,3 +3,4 @@ pub mod Years
 pub mod Rows
 pub mod Exchange
 pub mod Ratios
+pub mod NearSteps

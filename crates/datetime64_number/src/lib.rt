@@ -1,16 +1,18 @@
 // Numbers of a datetime64 unit and instants of `proleptic_gregorian`. A run finds the conversion of its unit once, and then checks each number
 // or instant before it converts any. A reader may rely on specs/Numbers.antt and on the theorems of proofs/Theorems.antt.
 ghost use mathlib.Core.Path.{_≡_};
-ghost use mathlib.Core.Bool.{true};
-ghost use Prim.Native.Nat.{_≤_};
-ghost use Rattle.axis_types.specs.Reading.{isRead, instantOf, readRefusal, offsetOf, offsetRefusal};
+ghost use mathlib.Core.Bool.{true, false};
+ghost use Prim.Native.Nat.{_*_, _≤_};
+ghost use Rattle.axis_types.specs.Reading.{isRead, instantOf, refusalOf, offsetOf, offsetRefusal};
 ghost use Rattle.datetime64_type.specs.Units.{rowOf};
 ghost use mathlib.Core.Option.{none};
 ghost use lib.IntN.{pos};
 ghost use Rattle.calendar.specs.declared.Calendar.the-variants.{ProlepticGregorian};
+ghost use Rattle.step.specs.Closed.{monthsOf};
+ghost use Rattle.calendar_axis.specs.Steps.{readSteps};
 ghost use Rattle.calendar_axis.specs.Start.{StartOf};
 ghost use Rattle.datetime64_type.specs.declared.UnitRow.{UnitRow};
-ghost use Rattle.datetime64_number.specs.Numbers.{readNumber, writeNumber};
+ghost use Rattle.datetime64_number.specs.Numbers.{isNotATime, readNumber, writeNumber};
 ghost use Rattle.datetime64_number.specs.Conversions.{ReadsByRatio, WritesByRatio, Reads, Writes, refusalIn};
 use axis_types::OffsetAnswer;
 use axis_types::Reading;
@@ -91,7 +93,7 @@ pub fn writing_of(unit: UnitCode) -> Conversion
 // A number of a unit with a fixed ratio. What is refused holds no time, leads out of the years, or is no whole count of microseconds.
 fn check_fixed(unit: UnitCode, ratio: Ratio, n: i64) -> NumberCheck
     requires { ⌜ ReadsByRatio (rowOf unit) ratio ⌝ }
-    ensures { λ r. ⌜ refusalIn r ≡ readRefusal (readNumber unit n) ⌝ }
+    ensures { λ r. ⌜ refusalIn r ≡ refusalOf (readNumber unit n) ⌝ }
 {
     if ratio::has(ratio, n) {
         return NumberCheck::Good;
@@ -105,9 +107,19 @@ fn check_fixed(unit: UnitCode, ratio: Ratio, n: i64) -> NumberCheck
     return NumberCheck::Refused(Refusal::Inexact);
 }
 
-// Whether so many steps from 1970 are known to stay in the years: up to 8000 years on or back they do.
+// So many steps from 1970, on or back, are 8000 years, and stay in the years -9999 to 9999.
+fn near_steps(part: Part) -> u64
+    ensures { λ m. ⌜ (m * monthsOf part ≡ 96000) × (m ≤ 96000) ⌝ }
+{
+    match part {
+        Part::Month => return 96000,
+        Part::Year => return 8000,
+    }
+}
+
+// Whether a number of steps is at most as great.
 fn is_near(part: Part, n: i64) -> bool
-    ensures { λ b. ⌜ b ≡ true ⌝ }
+    ensures { λ b. ⌜ (b ≡ true → (isNotATime n ≡ false) × (isRead (readSteps part ProlepticGregorian (pos 0) n) ≡ true)) ⌝ }
 {
     let most = near_steps(part);
     let k = signed::biased(n);
@@ -115,4 +127,105 @@ fn is_near(part: Part, n: i64) -> bool
         return false;
     }
     return k <= 0x8000_0000_0000_0000 + most;
+}
+
+// A number of months or years.
+fn check_steps(unit: UnitCode, part: Part, start: Start, n: i64) -> NumberCheck
+    requires row { ⌜ rowOf unit ≡ UnitRow.Steps part ⌝ }
+    requires from { ⌜ StartOf ProlepticGregorian (pos 0) start ⌝ }
+    ensures { λ r. ⌜ refusalIn r ≡ refusalOf (readNumber unit n) ⌝ }
+{
+    if is_near(part, n) {
+        return NumberCheck::Good;
+    }
+    if signed::biased(n) == 0 {
+        return NumberCheck::Refused(Refusal::NotATime);
+    }
+    match calendar_axis::read_from(Calendar::ProlepticGregorian, part, start, n) {
+        Reading::At(_, _) => return NumberCheck::Good,
+        Reading::Refused(r) => return NumberCheck::Refused(r),
+    }
+}
+
+// Whether a number is read.
+pub fn check_number(unit: UnitCode, conversion: Conversion, n: i64) -> NumberCheck
+    requires { ⌜ Reads (rowOf unit) conversion ⌝ }
+    ensures { λ r. ⌜ refusalIn r ≡ refusalOf (readNumber unit n) ⌝ }
+{
+    match conversion {
+        Conversion::Calendar(part, start) => return check_steps(unit, part, start, n),
+        Conversion::Fixed(ratio) => return check_fixed(unit, ratio, n),
+    }
+}
+
+// The instant of a number that is known to be read.
+pub fn instant_read(unit: UnitCode, conversion: Conversion, n: i64) -> i64
+    requires conversion { ⌜ Reads (rowOf unit) conversion ⌝ }
+    requires read { ⌜ refusalOf (readNumber unit n) ≡ none ⌝ }
+    ensures { λ t. ⌜ t ≡ instantOf (readNumber unit n) ⌝ }
+{
+    match conversion {
+        Conversion::Calendar(part, start) => {
+            return calendar_axis::instant_after(Calendar::ProlepticGregorian, part, start, n);
+        }
+        Conversion::Fixed(ratio) => return ratio::exchanged(ratio, n),
+    }
+}
+
+// ---- writing
+
+// An instant in a unit with a fixed ratio.
+fn check_fixed_instant(unit: UnitCode, ratio: Ratio, t: i64) -> NumberCheck
+    requires { ⌜ WritesByRatio (rowOf unit) ratio ⌝ }
+    ensures { λ r. ⌜ refusalIn r ≡ offsetRefusal (writeNumber unit t) ⌝ }
+{
+    if ratio::has(ratio, t) {
+        return NumberCheck::Good;
+    }
+    if instant::in_range(Calendar::ProlepticGregorian, t) {
+        return NumberCheck::Refused(Refusal::Inexact);
+    }
+    return NumberCheck::Refused(Refusal::OutOfRange);
+}
+
+// An instant in months or years, as a number or a refusal.
+fn write_steps(unit: UnitCode, part: Part, start: Start, t: i64) -> OffsetAnswer
+    requires row { ⌜ rowOf unit ≡ UnitRow.Steps part ⌝ }
+    requires from { ⌜ StartOf ProlepticGregorian (pos 0) start ⌝ }
+    ensures { λ r. ⌜ r ≡ writeNumber unit t ⌝ }
+{
+    if instant::in_range(Calendar::ProlepticGregorian, t) {
+        return calendar_axis::write_from(Calendar::ProlepticGregorian, part, start, t);
+    }
+    return OffsetAnswer::Refused(Refusal::OutOfRange);
+}
+
+// Whether an instant is written.
+pub fn check_instant(unit: UnitCode, conversion: Conversion, t: i64) -> NumberCheck
+    requires { ⌜ Writes (rowOf unit) conversion ⌝ }
+    ensures { λ r. ⌜ refusalIn r ≡ offsetRefusal (writeNumber unit t) ⌝ }
+{
+    match conversion {
+        Conversion::Calendar(part, start) => match write_steps(unit, part, start, t) {
+            OffsetAnswer::Is(_) => return NumberCheck::Good,
+            OffsetAnswer::Refused(r) => return NumberCheck::Refused(r),
+        },
+        Conversion::Fixed(ratio) => return check_fixed_instant(unit, ratio, t),
+    }
+}
+
+// The number of an instant that is known to be written.
+pub fn number_written(unit: UnitCode, conversion: Conversion, t: i64) -> i64
+    requires conversion { ⌜ Writes (rowOf unit) conversion ⌝ }
+    requires written { ⌜ offsetRefusal (writeNumber unit t) ≡ none ⌝ }
+    ensures { λ n. ⌜ n ≡ offsetOf (writeNumber unit t) ⌝ }
+{
+    match conversion {
+        Conversion::Calendar(part, start) => match write_steps(unit, part, start, t) {
+            OffsetAnswer::Is(n) => return n,
+            // no instant that is written comes here
+            OffsetAnswer::Refused(_) => return 0,
+        },
+        Conversion::Fixed(ratio) => return ratio::exchanged(ratio, t),
+    }
 }
