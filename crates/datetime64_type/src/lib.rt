@@ -1,8 +1,10 @@
 // The type of a datetime64 array, as its identifier names it: the byte order of its records and one of thirteen units.
-// A reader may rely on specs/Units.antt.
+// A reader may rely on specs/Units.antt and specs/Identifier.antt.
 ghost use mathlib.Core.Path.{_≡_};
 ghost use Rattle.datetime64_type.specs.Units.{rowOf};
 use step::Part;
+
+pub mod identifier;
 
 pub enum ByteOrder {
     Little,
