@@ -5,15 +5,12 @@ use mathlib.Core.Path.{_≡_, refl, sym, ap, _∙_}
 use mathlib.Core.Bool.{Bool, true, cond, or-false}
 use mathlib.Core.List.{List, [], _∷_}
 use mathlib.Core.Option.{Option, none, some}
-use lib.ListN.{length, getD}
+use lib.ListN.{length}
 use Rattle.grammar.specs.Grammar.{within, inside, every, starts}
-use Rattle.grammar.specs.Rules.{bytes, span, same}
-use Rattle.grammar.proofs.Tests.{clash}
-use Rattle.grammar.proofs.Places.{span-in, span-below}
+use Rattle.grammar.specs.Rules.{bytes, same}
 use Rattle.word_table.specs.Table.{lookup}
-use Rattle.word_table.specs.Packed.{packed}
-use Rattle.word_table.proofs.Packed.{are-bytes, headed}
-use Rattle.word_table.proofs.Words.{byNumber, lookup-packed, lookup-long, lookup-word}
+use Rattle.word_table.proofs.Packed.{headed}
+use Rattle.word_table.proofs.Words.{words, lookup-long}
 use Rattle.calendar.specs.declared.Calendar.{Calendar}
 use Rattle.calendar_name.specs.declared.CalendarNamed.{CalendarNamed}
 use Rattle.calendar_name.specs.Names.{calendarNames, calendarOf, calendarNamed}
@@ -38,22 +35,9 @@ name-listed [] h = absurd (omega arith)
 name-listed (b ∷ s) h = refl
 
 -- no listed name starts with the byte 0
-pub name-zero : (w : List ℕ) → getD w 0 0 ≡ 0 → lookup calendarNames w ≡ none
-unfolding starts within inside
-name-zero [] e = refl
-name-zero (b ∷ s) e = go (lookup calendarNames (b ∷ s)) refl
-  where
-    go : (o : Option Calendar) → lookup calendarNames (b ∷ s) ≡ o → o ≡ none
-    go none x = refl
-    go (some a) x = clash (lookup-word (starts (span 1 255)) calendarNames (b ∷ s) a refl x) (span-below 1 255 b (omega arith))
-
-pub name-packed : (w : List ℕ) → 1 ≤ length w → (getD w 0 0 ≡ 0 → ⊥) → ((i : ℕ) → getD w i 0 < 256) → lookup calendarNames w ≡ byNumber calendarNames (packed w)
+pub names-headed : words headed calendarNames ≡ true
 unfolding every starts within inside
-name-packed w l n h = lookup-packed calendarNames w refl (bytes-headed w l n h)
-  where
-    bytes-headed : (w : List ℕ) → 1 ≤ length w → (getD w 0 0 ≡ 0 → ⊥) → ((i : ℕ) → getD w i 0 < 256) → headed w ≡ true
-    bytes-headed [] l n h = absurd (omega arith)
-    bytes-headed (b ∷ s) l n h = rw (span-in 1 255 b (omega (arith, n)) (omega (arith, h 0))) (are-bytes (b ∷ s) h)
+names-headed = refl
 
 -- the names of more than eight bytes
 pub name-long : (w : List ℕ) (a b c : Bool) → 8 < length w → same w (bytes "gregorian") ≡ a → same w (bytes "proleptic_gregorian") ≡ b → same w (bytes "uniform30day") ≡ c

@@ -26,7 +26,7 @@ use Rattle.calendar_axis.proofs.Demands.{day-read}
 -- 1970 is year 11970, counted from -10000
 start : YearOf ProlepticGregorian (dateAt ProlepticGregorian (pos 0)) 11970
 unfolding dateOf dateBy times dayOf
-start = record { date = record { inside = refl; there = dates-exist ProlepticGregorian (pos 0) }; is = refl }
+start = record { date = record { inside = refl; there = dates-exist ProlepticGregorian (dayOf (pos 0)) }; is = refl }
 
 month : dateAt ProlepticGregorian (pos 0) .month ≡ 1
 unfolding dateOf dateBy times dayOf
@@ -44,4 +44,4 @@ near-read part n most f e l h =
     let y : inYears (dateAfter part ProlepticGregorian (unbiased u) x .year) ≡ true =
     year-between ProlepticGregorian x 11970 start part u 9223372036854775808 (omega (arith, low, e, add-mul u most m, month)) (omega (arith, high, e, add-mul 9223372036854775808 most m, month)) in
     let z = ap (λ (k : ℤ). inYears (dateAfter part ProlepticGregorian k x .year)) (sym (unbiased-biased n f)) ∙ y in
-    ap isRead (day-read ProlepticGregorian (dateAfter part ProlepticGregorian n x) (steps-exist part ProlepticGregorian x (dates-exist ProlepticGregorian (pos 0)) n) (timeOf (pos 0)) z .1)
+    ap isRead (day-read ProlepticGregorian (dateAfter part ProlepticGregorian n x) (steps-exist part ProlepticGregorian x (start .date .there) n) (timeOf (pos 0)) z .1)

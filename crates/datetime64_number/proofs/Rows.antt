@@ -6,7 +6,7 @@ use native.Mathlib.Omega.{arith}
 use lib.Dec.{T}
 use mathlib.Core.Bool.{true}
 use Rattle.ratio.specs.Multiples.{Steps}
-use Rattle.datetime64_type.specs.Units.{rowOf}
+use Rattle.datetime64_type.specs.Units.{unitRowOf}
 use Rattle.datetime64_type.specs.declared.UnitCode.{UnitCode}
 use Rattle.datetime64_type.specs.declared.UnitCode.the-variants.{Year, Month, Week, Day, Hour, Minute, Second, Millisecond, Microsecond, Nanosecond, Picosecond, Femtosecond, Attosecond}
 use Rattle.datetime64_type.specs.declared.UnitRow.{UnitRow}
@@ -21,7 +21,7 @@ GoodRow (UnitRow.Steps part) = T true
 GoodRow (UnitRow.Multiple k) = GoodStep k
 GoodRow (UnitRow.Fraction k) = GoodStep k × (1000 ≤ k)
 
-pub rows : (unit : UnitCode) → GoodRow (rowOf unit)
+pub rows : (unit : UnitCode) → GoodRow (unitRowOf unit)
 rows Year = tt
 rows Month = tt
 rows Week = record { positive = omega arith; even = λ h. (omega arith, refl) }

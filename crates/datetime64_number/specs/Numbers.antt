@@ -10,7 +10,7 @@ use Rattle.axis_types.specs.declared.Reading.{Reading}
 use Rattle.axis_types.specs.declared.OffsetAnswer.{OffsetAnswer}
 use Rattle.fixed_axis.specs.Fixed.{readingAt, inPeriods}
 use Rattle.calendar_axis.specs.Steps.{readSteps, writeSteps}
-use Rattle.datetime64_type.specs.Units.{rowOf}
+use Rattle.datetime64_type.specs.Units.{unitRowOf}
 use Rattle.datetime64_type.specs.declared.UnitCode.{UnitCode}
 use Rattle.datetime64_type.specs.declared.UnitRow.{UnitRow}
 
@@ -38,7 +38,7 @@ readByRow (UnitRow.Multiple k) n = readingAt ProlepticGregorian (n *ℤ pos k) t
 readByRow (UnitRow.Fraction k) n = countRead (inPeriods n k)
 
 unfoldable pub readNumber : UnitCode → ℤ → Reading
-readNumber unit n = cond (isNotATime n) (Reading.Refused NotATime) (readByRow (rowOf unit) n)
+readNumber unit n = cond (isNotATime n) (Reading.Refused NotATime) (readByRow (unitRowOf unit) n)
 
 -- ---- writing
 
@@ -52,4 +52,4 @@ writeByRow (UnitRow.Multiple k) t = inPeriods t k
 writeByRow (UnitRow.Fraction k) t = numberWritten (t *ℤ pos k)
 
 unfoldable pub writeNumber : UnitCode → ℤ → OffsetAnswer
-writeNumber unit t = cond (inRange ProlepticGregorian t) (writeByRow (rowOf unit) t) (OffsetAnswer.Refused OutOfRange)
+writeNumber unit t = cond (inRange ProlepticGregorian t) (writeByRow (unitRowOf unit) t) (OffsetAnswer.Refused OutOfRange)

@@ -4,7 +4,7 @@ ghost use mathlib.Core.Path.{_≡_};
 ghost use mathlib.Core.Bool.{true, false};
 ghost use Prim.Native.Nat.{_*_, _≤_};
 ghost use Rattle.axis_types.specs.Reading.{isRead, instantOf, refusalOf, offsetOf, offsetRefusal};
-ghost use Rattle.datetime64_type.specs.Units.{rowOf};
+ghost use Rattle.datetime64_type.specs.Units.{unitRowOf};
 ghost use mathlib.Core.Option.{none};
 ghost use lib.IntN.{pos};
 ghost use Rattle.calendar.specs.declared.Calendar.the-variants.{ProlepticGregorian};
@@ -38,7 +38,7 @@ pub enum NumberCheck {
 
 // The conversion of numbers into instants. What is multiplied lies in the years where it is an instant, and in 64 bits where it is a number.
 pub fn reading_of(unit: UnitCode) -> Conversion
-    ensures { λ r. ⌜ Reads (rowOf unit) r ⌝ }
+    ensures { λ r. ⌜ Reads (unitRowOf unit) r ⌝ }
 {
     match datetime64_type::row_of(unit) {
         UnitRow::Steps(part) => {
@@ -64,7 +64,7 @@ pub fn reading_of(unit: UnitCode) -> Conversion
 
 // The conversion of instants into numbers.
 pub fn writing_of(unit: UnitCode) -> Conversion
-    ensures { λ r. ⌜ Writes (rowOf unit) r ⌝ }
+    ensures { λ r. ⌜ Writes (unitRowOf unit) r ⌝ }
 {
     match datetime64_type::row_of(unit) {
         UnitRow::Steps(part) => {
@@ -92,7 +92,7 @@ pub fn writing_of(unit: UnitCode) -> Conversion
 
 // A number of a unit with a fixed ratio. What is refused holds no time, leads out of the years, or is no whole count of microseconds.
 fn check_fixed(unit: UnitCode, ratio: Ratio, n: i64) -> NumberCheck
-    requires { ⌜ ReadsByRatio (rowOf unit) ratio ⌝ }
+    requires { ⌜ ReadsByRatio (unitRowOf unit) ratio ⌝ }
     ensures { λ r. ⌜ refusalIn r ≡ refusalOf (readNumber unit n) ⌝ }
 {
     if ratio::has(ratio, n) {
@@ -131,7 +131,7 @@ fn is_near(part: Part, n: i64) -> bool
 
 // A number of months or years.
 fn check_steps(unit: UnitCode, part: Part, start: Start, n: i64) -> NumberCheck
-    requires row { ⌜ rowOf unit ≡ UnitRow.Steps part ⌝ }
+    requires row { ⌜ unitRowOf unit ≡ UnitRow.Steps part ⌝ }
     requires from { ⌜ StartOf ProlepticGregorian (pos 0) start ⌝ }
     ensures { λ r. ⌜ refusalIn r ≡ refusalOf (readNumber unit n) ⌝ }
 {
@@ -149,7 +149,7 @@ fn check_steps(unit: UnitCode, part: Part, start: Start, n: i64) -> NumberCheck
 
 // Whether a number is read.
 pub fn check_number(unit: UnitCode, conversion: Conversion, n: i64) -> NumberCheck
-    requires { ⌜ Reads (rowOf unit) conversion ⌝ }
+    requires { ⌜ Reads (unitRowOf unit) conversion ⌝ }
     ensures { λ r. ⌜ refusalIn r ≡ refusalOf (readNumber unit n) ⌝ }
 {
     match conversion {
@@ -160,7 +160,7 @@ pub fn check_number(unit: UnitCode, conversion: Conversion, n: i64) -> NumberChe
 
 // The instant of a number that is known to be read.
 pub fn instant_read(unit: UnitCode, conversion: Conversion, n: i64) -> i64
-    requires conversion { ⌜ Reads (rowOf unit) conversion ⌝ }
+    requires conversion { ⌜ Reads (unitRowOf unit) conversion ⌝ }
     requires read { ⌜ refusalOf (readNumber unit n) ≡ none ⌝ }
     ensures { λ t. ⌜ t ≡ instantOf (readNumber unit n) ⌝ }
 {
@@ -176,7 +176,7 @@ pub fn instant_read(unit: UnitCode, conversion: Conversion, n: i64) -> i64
 
 // An instant in a unit with a fixed ratio.
 fn check_fixed_instant(unit: UnitCode, ratio: Ratio, t: i64) -> NumberCheck
-    requires { ⌜ WritesByRatio (rowOf unit) ratio ⌝ }
+    requires { ⌜ WritesByRatio (unitRowOf unit) ratio ⌝ }
     ensures { λ r. ⌜ refusalIn r ≡ offsetRefusal (writeNumber unit t) ⌝ }
 {
     if ratio::has(ratio, t) {
@@ -190,7 +190,7 @@ fn check_fixed_instant(unit: UnitCode, ratio: Ratio, t: i64) -> NumberCheck
 
 // An instant in months or years, as a number or a refusal.
 fn write_steps(unit: UnitCode, part: Part, start: Start, t: i64) -> OffsetAnswer
-    requires row { ⌜ rowOf unit ≡ UnitRow.Steps part ⌝ }
+    requires row { ⌜ unitRowOf unit ≡ UnitRow.Steps part ⌝ }
     requires from { ⌜ StartOf ProlepticGregorian (pos 0) start ⌝ }
     ensures { λ r. ⌜ r ≡ writeNumber unit t ⌝ }
 {
@@ -202,7 +202,7 @@ fn write_steps(unit: UnitCode, part: Part, start: Start, t: i64) -> OffsetAnswer
 
 // Whether an instant is written.
 pub fn check_instant(unit: UnitCode, conversion: Conversion, t: i64) -> NumberCheck
-    requires { ⌜ Writes (rowOf unit) conversion ⌝ }
+    requires { ⌜ Writes (unitRowOf unit) conversion ⌝ }
     ensures { λ r. ⌜ refusalIn r ≡ offsetRefusal (writeNumber unit t) ⌝ }
 {
     match conversion {
@@ -216,7 +216,7 @@ pub fn check_instant(unit: UnitCode, conversion: Conversion, t: i64) -> NumberCh
 
 // The number of an instant that is known to be written.
 pub fn number_written(unit: UnitCode, conversion: Conversion, t: i64) -> i64
-    requires conversion { ⌜ Writes (rowOf unit) conversion ⌝ }
+    requires conversion { ⌜ Writes (unitRowOf unit) conversion ⌝ }
     requires written { ⌜ offsetRefusal (writeNumber unit t) ≡ none ⌝ }
     ensures { λ n. ⌜ n ≡ offsetOf (writeNumber unit t) ⌝ }
 {

@@ -1,8 +1,10 @@
 // The type of a datetime64 array, as its identifier names it: the byte order of its records and one of thirteen units.
-// A reader may rely on specs/Units.antt.
+// A reader may rely on specs/Units.antt and specs/Identifier.antt.
 ghost use mathlib.Core.Path.{_≡_};
-ghost use Rattle.datetime64_type.specs.Units.{rowOf};
+ghost use Rattle.datetime64_type.specs.Units.{unitRowOf};
 use step::Part;
+
+pub mod identifier;
 
 pub enum ByteOrder {
     Little,
@@ -38,7 +40,7 @@ pub enum UnitRow {
 }
 
 pub fn row_of(unit: UnitCode) -> UnitRow
-    ensures { λ r. ⌜ r ≡ rowOf unit ⌝ }
+    ensures { λ r. ⌜ r ≡ unitRowOf unit ⌝ }
 {
     match unit {
         UnitCode::Year => return UnitRow::Steps(Part::Year),

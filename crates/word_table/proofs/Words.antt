@@ -1,5 +1,5 @@
 -- Tables looked up by numbers, and what a table says of the words in it.
-use Prim.Native.Nat.{ℕ, _<_}
+use Prim.Native.Nat.{ℕ, _≤_, _<_}
 use native.Mathlib.Omega.{arith}
 use mathlib.Core.Path.{_≡_, refl, sym, ap, _∙_}
 use mathlib.Core.Bool.{Bool, true, false, _&&_, _||_, cond, or-false}
@@ -7,15 +7,17 @@ use mathlib.Core.List.{List, [], _∷_}
 use mathlib.Core.Logic.{inl, inr}
 use mathlib.Core.Option.{Option, none, some}
 use lib.Dec.{leb, eqb}
-use lib.ListN.{length}
+use lib.ListN.{length, getD}
 use borrow.Author.Tests.{eqb-true, ne-eqb, leb-true}
 use types.Run.{OneOf}
-use Rattle.grammar.specs.Rules.{same}
+use Rattle.grammar.specs.Grammar.{starts}
+use Rattle.grammar.specs.Rules.{span, same}
 use Rattle.grammar.proofs.Tests.{clash, none-some, and-parts}
+use Rattle.grammar.proofs.Places.{span-in, span-below}
 use Rattle.grammar.proofs.Same.{same-true, same-length-no}
 use Rattle.word_table.specs.Table.{Row, row, among, lookup}
 use Rattle.word_table.specs.Packed.{packed}
-use Rattle.word_table.proofs.Packed.{headed, packed-same}
+use Rattle.word_table.proofs.Packed.{are-bytes, headed, packed-same}
 
 -- a test that every word of a list, and of a table, passes
 abbrev pub all : (List ℕ → Bool) → List (List ℕ) → Bool
@@ -126,3 +128,42 @@ lookup-word f (r ∷ t) w a g e = let h = and-parts (all f (r .words)) (words f 
     go : (b : Bool) → among (r .words) w ≡ b → cond b (some (r .means)) (lookup t w) ≡ some a → all f (r .words) ≡ true → (lookup t w ≡ some a → f w ≡ true) → f w ≡ true
     go true y z k i = among-word f (r .words) w k y
     go false y z k i = i z
+
+-- ---- a word of bytes, in a table of words whose first byte is not 0: no row has it where its first byte is 0, and else its number tells
+
+module _ {A : Type 0} (t : List (Row A)) (w : List ℕ) (g : words headed t ≡ true) where
+  pub lookup-zero : getD w 0 0 ≡ 0 → lookup t w ≡ none
+  unfolding starts
+  lookup-zero e = go (lookup t w) refl
+    where
+      not-headed : (v : List ℕ) → getD v 0 0 ≡ 0 → starts (span 1 255) v ≡ false
+      not-headed [] z = refl
+      not-headed (b ∷ v) z = span-below 1 255 b (omega arith)
+
+      go : (o : Option A) → lookup t w ≡ o → o ≡ none
+      go none x = refl
+      go (some a) x = clash (and-parts _ _ (lookup-word headed t w a g x) .0) (not-headed w e)
+
+  pub lookup-bytes : 1 ≤ length w → (getD w 0 0 ≡ 0 → ⊥) → ((i : ℕ) → getD w i 0 < 256) → lookup t w ≡ byNumber t (packed w)
+  unfolding starts
+  lookup-bytes l n h = lookup-packed t w g (bytes-headed w l n h)
+    where
+      bytes-headed : (v : List ℕ) → 1 ≤ length v → (getD v 0 0 ≡ 0 → ⊥) → ((i : ℕ) → getD v i 0 < 256) → headed v ≡ true
+      bytes-headed [] l n h = absurd (omega arith)
+      bytes-headed (b ∷ v) l n h = rw (span-in 1 255 b (omega (arith, n)) (omega (arith, h 0))) (are-bytes (b ∷ v) h)
+
+-- ---- a table in which each row has one word, that of its meaning
+
+abbrev pub Single : {A : Type 0} → (A → List ℕ) → List (Row A) → Type 0
+Single f [] = Unit {0}
+Single f (r ∷ t) = (r .words ≡ f (r .means) ∷ []) × Single f t
+
+pub lookup-single : {A : Type 0} (f : A → List ℕ) (t : List (Row A)) (w : List ℕ) (a : A) → Single f t → lookup t w ≡ some a → w ≡ f a
+lookup-single f [] w a u e = none-some e
+lookup-single f (r ∷ t) w a (p, u) e = go (among (r .words) w) refl e (λ y. lookup-single f t w a u y)
+  where
+    go : (b : Bool) → among (r .words) w ≡ b → cond b (some (r .means)) (lookup t w) ≡ some a → (lookup t w ≡ some a → w ≡ f a) → w ≡ f a
+    go true y z i =
+        let m : r .means ≡ a = cc in
+        same-true w (f (r .means)) (sym (or-false (same w (f (r .means)))) ∙ (ap (λ (l : List (List ℕ)). among l w) (sym p) ∙ y)) ∙ ap f m
+    go false y z i = i z

@@ -8,20 +8,20 @@ use mathlib.Core.Option.{none}
 use Rattle.calendar.specs.declared.Calendar.{Calendar}
 use Rattle.grammar.specs.Rules.{bytes}
 use Rattle.word_table.specs.Table.{lookup}
-use Rattle.word_table.proofs.Words.{numbers, byNumber, each-key, no-key}
+use Rattle.word_table.proofs.Words.{numbers, byNumber, each-key, no-key, lookup-zero, lookup-bytes}
 use Rattle.calendar_name.specs.Names.{calendarNames, calendarNamed}
-use Rattle.calendar_name.proofs.Laws.{name-zero, name-packed}
+use Rattle.calendar_name.proofs.Laws.{names-headed}
 use Rattle.calendar_name.proofs.short_name.Statement.{statement}
 use Rattle.calendar_name.proofs.short_name.Tie as tie
 
 returns : tie.Need-returns
-returns c = sym (ap calendarNamed (name-zero (c .before .before .before .args .name .now) (c .if1 .taken)))
+returns c = sym (ap calendarNamed (lookup-zero calendarNames (c .before .before .before .args .name .now) names-headed (c .if1 .taken)))
 
 -- the table gives the name what it gives the name's number
 number : (c : tie.After-packed-of) → lookup calendarNames (c .before .before .before .before .args .name .now) ≡ byNumber calendarNames (c .packed-of .result)
 number c =
     let st = c .before .before .before .before in
-    name-packed (st .args .name .now) (st .pre .0) (c .before .if1 .left) (λ i. omega (arith, c .before .before .before .shared-slice-known .given i))
+    lookup-bytes calendarNames (st .args .name .now) names-headed (st .pre .0) (c .before .if1 .left) (λ i. omega (arith, c .before .before .before .shared-slice-known .given i))
     ∙ ap (byNumber calendarNames) (sym (c .packed-of .ensures))
 
 returns-2 : tie.Need-returns-2

@@ -1,7 +1,7 @@
 -- `datetime64_number::reading_of` meets its contract.
 use mathlib.Core.Path.{_≡_, refl, sym, _∙_, subst}
 use native.Mathlib.Omega.{arith}
-use Rattle.datetime64_type.specs.Units.{rowOf}
+use Rattle.datetime64_type.specs.Units.{unitRowOf}
 use Rattle.datetime64_type.specs.declared.UnitRow.{UnitRow}
 use Rattle.datetime64_number.specs.Conversions.{yearsBelow, yearsAbove, greatestNumber, ReadsByRatio}
 use Rattle.datetime64_number.proofs.Years.{epoch-in}
@@ -11,13 +11,13 @@ use Rattle.datetime64_number.proofs.reading_of.Statement.{statement}
 use Rattle.datetime64_number.proofs.reading_of.Tie as tie
 
 -- the row is that of the unit
-row-is : (c : tie.After-k) → rowOf (c .before .before .before .args .unit) ≡ UnitRow.Multiple (c .k .given .0 .0)
+row-is : (c : tie.After-k) → unitRowOf (c .before .before .before .args .unit) ≡ UnitRow.Multiple (c .k .given .0 .0)
 row-is c = sym (c .before .before .row-of .ensures) ∙ c .k .given .1
 
 multiple : (c : tie.After-k) → GoodStep (c .k .given .0 .0)
 multiple c = subst GoodRow (row-is c) (rows (c .before .before .before .args .unit))
 
-row-is-2 : (c : tie.After-k2) → rowOf (c .before .before .before .args .unit) ≡ UnitRow.Fraction (c .k2 .given .0 .0)
+row-is-2 : (c : tie.After-k2) → unitRowOf (c .before .before .before .args .unit) ≡ UnitRow.Fraction (c .k2 .given .0 .0)
 row-is-2 c = sym (c .before .before .row-of .ensures) ∙ c .k2 .given .1
 
 fraction : (c : tie.After-k2) → GoodStep (c .k2 .given .0 .0)
