@@ -4,3 +4,4 @@ pub mod Rows
 pub mod Exchange
 pub mod Ratios
 pub mod NearSteps
+pub mod Units

@@ -1,6 +1,6 @@
 -- The numbers of a unit with a fixed ratio: what is one of the multiples is read or written as what it is exchanged for, and nothing else is.
 use mathlib.Core.Path.{_≡_, refl, sym, ap, _∙_, subst}
-use mathlib.Core.Bool.{Bool, true, false, cond}
+use mathlib.Core.Bool.{Bool, true, false, cond, false≢true}
 use Prim.Native.Nat.{ℕ, zero, suc, _+_, _-_, _*_, _/_, _≤_, _<_}
 use native.Mathlib.Nat.{div-mul-le-self, div-le-self, mul-le-mul-left}
 use native.Mathlib.Omega.{arith}
@@ -17,9 +17,11 @@ use Rattle.refusal.specs.declared.Refusal.the-variants.{OutOfRange, Inexact}
 use Rattle.calendar.specs.declared.Calendar.the-variants.{ProlepticGregorian}
 use Rattle.instant.specs.Instant.{inRange}
 use Rattle.instant.proofs.Range as Range
+use Rattle.axis_types.specs.Reading.{isNone, isRead, offsetRefusal}
 use Rattle.axis_types.specs.declared.Reading.{Reading}
 use Rattle.axis_types.specs.declared.OffsetAnswer.{OffsetAnswer}
 use Rattle.fixed_axis.specs.Fixed.{readingAt, inPeriods}
+use Rattle.fixed_axis.proofs.Readings.{inside}
 use Rattle.fixed_axis.proofs.Offsets.{inexact}
 use Rattle.ratio.specs.Multiples.{Place, IsRatio, IsMultiple}
 use Rattle.ratio.specs.declared.Ratio.{Ratio}
@@ -133,29 +135,42 @@ ratio-read (UnitRow.Fraction k) r g q = fraction-read k r (g .0 .positive) (g .1
 abbrev pub unread : ℕ → Refusal
 unread from = cond (eqb from 1) OutOfRange Inexact
 
-multiple-unread : (k : ℕ) (r : Ratio) → 0 < k → ReadsByRatio (UnitRow.Multiple k) r → (n : ℤ) → SFits w64 n → (IsMultiple r (biased n) → ⊥) → readByRow (UnitRow.Multiple k) n ≡ Reading.Refused OutOfRange
-unfolding readByRow
-multiple-unread k r h q n f miss = ap (λ (b : Bool). cond b (Reading.At (n *ℤ pos k) true) (Reading.Refused OutOfRange)) (to-false (inRange ProlepticGregorian (n *ℤ pos k)) inside)
-  where
-    inside : inRange ProlepticGregorian (n *ℤ pos k) ≡ true → ⊥
-    inside e =
-        let g : SFits w64 (n *ℤ pos k) = record { sfits = omega (arith, Range.small ProlepticGregorian (n *ℤ pos k) e) } in
-        let w = within-years (biased (n *ℤ pos k)) (ap (inRange ProlepticGregorian) (unbiased-biased (n *ℤ pos k) g) ∙ e) in
-        let p = product-place yearsBelow yearsAbove k h (omega arith) n f g w in
-        miss (p .0, place-back q (biased n) (p .0) (p .1))
+module _ (k : ℕ) (r : Ratio) (h : 0 < k) (n : ℤ) (f : SFits w64 n) where
+  -- a number that is read is one of the multiples
+  multiple-place : ReadsByRatio (UnitRow.Multiple k) r → inRange ProlepticGregorian (n *ℤ pos k) ≡ true → IsMultiple r (biased n)
+  multiple-place q e =
+      let g : SFits w64 (n *ℤ pos k) = record { sfits = omega (arith, Range.small ProlepticGregorian (n *ℤ pos k) e) } in
+      let w = within-years (biased (n *ℤ pos k)) (ap (inRange ProlepticGregorian) (unbiased-biased (n *ℤ pos k) g) ∙ e) in
+      let p = product-place yearsBelow yearsAbove k h (omega arith) n f g w in
+      (p .0, place-back q (biased n) (p .0) (p .1))
 
-fraction-unread : (k : ℕ) (r : Ratio) → 0 < k → ReadsByRatio (UnitRow.Fraction k) r → (n : ℤ) → SFits w64 n → 0 < biased n → (IsMultiple r (biased n) → ⊥) → readByRow (UnitRow.Fraction k) n ≡ Reading.Refused Inexact
+  fraction-place : ReadsByRatio (UnitRow.Fraction k) r → 0 < biased n → (m : ℤ) → inPeriods n k ≡ OffsetAnswer.Is m → IsMultiple r (biased n)
+  fraction-place q g m e =
+      let p = quotient-place greatestNumber greatestNumber k h (omega arith) n m f (number-within n f g) e in
+      (p .0, place-back q (biased n) (p .0) (p .1))
+
+  multiple-unread : ReadsByRatio (UnitRow.Multiple k) r → (IsMultiple r (biased n) → ⊥) → readByRow (UnitRow.Multiple k) n ≡ Reading.Refused OutOfRange
+  unfolding readByRow
+  multiple-unread q miss = ap (λ (b : Bool). cond b (Reading.At (n *ℤ pos k) true) (Reading.Refused OutOfRange)) (to-false (inRange ProlepticGregorian (n *ℤ pos k)) (λ e. miss (multiple-place q e)))
+
+  fraction-unread : ReadsByRatio (UnitRow.Fraction k) r → 0 < biased n → (IsMultiple r (biased n) → ⊥) → readByRow (UnitRow.Fraction k) n ≡ Reading.Refused Inexact
+  unfolding readByRow
+  fraction-unread q g miss = ap countRead (inexact n k (λ m e. miss (fraction-place q g m e)))
+
+pub ratio-found : (row : UnitRow) (r : Ratio) → GoodRow row → ReadsByRatio row r → (n : ℤ) → SFits w64 n → 0 < biased n → isRead (readByRow row n) ≡ true → IsMultiple r (biased n)
 unfolding readByRow
-fraction-unread k r h q n f g miss =
-    ap countRead
-    (inexact n k (λ m e.
-    let p = quotient-place greatestNumber greatestNumber k h (omega arith) n m f (number-within n f g) e in
-    miss (p .0, place-back q (biased n) (p .0) (p .1))))
+ratio-found (UnitRow.Steps part) r g q n f h e = absurd q
+ratio-found (UnitRow.Multiple k) r g q n f h e = multiple-place k r (g .positive) n f q (inside ProlepticGregorian (n *ℤ pos k) true e)
+ratio-found (UnitRow.Fraction k) r g q n f h e = go (inPeriods n k) refl e
+  where
+    go : (a : OffsetAnswer) → inPeriods n k ≡ a → isRead (countRead a) ≡ true → IsMultiple r (biased n)
+    go (OffsetAnswer.Is m) e i = fraction-place k r (g .0 .positive) n f q h m e
+    go (OffsetAnswer.Refused m) e i = absurd (false≢true i)
 
 pub ratio-unread : (row : UnitRow) (r : Ratio) → GoodRow row → ReadsByRatio row r → (n : ℤ) → SFits w64 n → 0 < biased n → (IsMultiple r (biased n) → ⊥) → readByRow row n ≡ Reading.Refused (unread (r .from))
 ratio-unread (UnitRow.Steps part) r g q n f h miss = absurd q
-ratio-unread (UnitRow.Multiple k) r g q n f h miss = multiple-unread k r (g .positive) q n f miss ∙ ap (λ (b : Bool). Reading.Refused (cond b OutOfRange Inexact)) (sym (eq-eqb (r .from) 1 (q .from-is)))
-ratio-unread (UnitRow.Fraction k) r g q n f h miss = fraction-unread k r (g .0 .positive) q n f h miss ∙ ap (λ (b : Bool). Reading.Refused (cond b OutOfRange Inexact)) (sym (ne-eqb (r .from) 1 (λ e. omega (arith, q .from-is, g .1))))
+ratio-unread (UnitRow.Multiple k) r g q n f h miss = multiple-unread k r (g .positive) n f q miss ∙ ap (λ (b : Bool). Reading.Refused (cond b OutOfRange Inexact)) (sym (eq-eqb (r .from) 1 (q .from-is)))
+ratio-unread (UnitRow.Fraction k) r g q n f h miss = fraction-unread k r (g .0 .positive) n f q h miss ∙ ap (λ (b : Bool). Reading.Refused (cond b OutOfRange Inexact)) (sym (ne-eqb (r .from) 1 (λ e. omega (arith, q .from-is, g .1))))
 
 -- ---- writing
 
@@ -206,25 +221,43 @@ ratio-written (UnitRow.Steps part) r g q = absurd q
 ratio-written (UnitRow.Multiple k) r g q = multiple-written k r (g .positive) q
 ratio-written (UnitRow.Fraction k) r g q = fraction-written k r (g .0 .positive) (g .1) q
 
-multiple-unwritten : (k : ℕ) (r : Ratio) → 0 < k → WritesByRatio (UnitRow.Multiple k) r → (t : ℤ) → SFits w64 t → inRange ProlepticGregorian t ≡ true → (IsMultiple r (biased t) → ⊥) → writeByRow (UnitRow.Multiple k) t ≡ OffsetAnswer.Refused Inexact
-unfolding writeByRow
-multiple-unwritten k r h q t f g miss =
-    inexact t k (λ m e.
-    let w = within-years (biased t) (ap (inRange ProlepticGregorian) (unbiased-biased t f) ∙ g) in
-    let p = quotient-place yearsBelow yearsAbove k h (omega arith) t m f w e in
-    miss (p .0, place-back q (biased t) (p .0) (p .1)))
+module _ (k : ℕ) (r : Ratio) (h : 0 < k) (t : ℤ) (f : SFits w64 t) where
+  -- an instant that is written is one of the multiples
+  instant-place : WritesByRatio (UnitRow.Multiple k) r → inRange ProlepticGregorian t ≡ true → (m : ℤ) → inPeriods t k ≡ OffsetAnswer.Is m → IsMultiple r (biased t)
+  instant-place q g m e =
+      let w = within-years (biased t) (ap (inRange ProlepticGregorian) (unbiased-biased t f) ∙ g) in
+      let p = quotient-place yearsBelow yearsAbove k h (omega arith) t m f w e in
+      (p .0, place-back q (biased t) (p .0) (p .1))
 
-fraction-unwritten : (k : ℕ) (r : Ratio) → 0 < k → WritesByRatio (UnitRow.Fraction k) r → (t : ℤ) → SFits w64 t → (IsMultiple r (biased t) → ⊥) → writeByRow (UnitRow.Fraction k) t ≡ OffsetAnswer.Refused Inexact
+  held-place : WritesByRatio (UnitRow.Fraction k) r → holdsTime (t *ℤ pos k) ≡ true → IsMultiple r (biased t)
+  held-place q e =
+      let g = holds-fits (t *ℤ pos k) e in
+      let p = product-place greatestNumber greatestNumber k h (omega arith) t f (g .0) (number-within (t *ℤ pos k) (g .0) (g .1)) in
+      (p .0, place-back q (biased t) (p .0) (p .1))
+
+  multiple-unwritten : WritesByRatio (UnitRow.Multiple k) r → inRange ProlepticGregorian t ≡ true → (IsMultiple r (biased t) → ⊥) → writeByRow (UnitRow.Multiple k) t ≡ OffsetAnswer.Refused Inexact
+  unfolding writeByRow
+  multiple-unwritten q g miss = inexact t k (λ m e. miss (instant-place q g m e))
+
+  fraction-unwritten : WritesByRatio (UnitRow.Fraction k) r → (IsMultiple r (biased t) → ⊥) → writeByRow (UnitRow.Fraction k) t ≡ OffsetAnswer.Refused Inexact
+  unfolding writeByRow
+  fraction-unwritten q miss = ap (λ (b : Bool). cond b (OffsetAnswer.Is (t *ℤ pos k)) (OffsetAnswer.Refused Inexact)) (to-false (holdsTime (t *ℤ pos k)) (λ e. miss (held-place q e)))
+
+pub instant-found : (row : UnitRow) (r : Ratio) → GoodRow row → WritesByRatio row r → (t : ℤ) → SFits w64 t → inRange ProlepticGregorian t ≡ true → isNone (offsetRefusal (writeByRow row t)) ≡ true → IsMultiple r (biased t)
 unfolding writeByRow
-fraction-unwritten k r h q t f miss = ap (λ (b : Bool). cond b (OffsetAnswer.Is (t *ℤ pos k)) (OffsetAnswer.Refused Inexact)) (to-false (holdsTime (t *ℤ pos k)) held)
+instant-found (UnitRow.Steps part) r g q t f h e = absurd q
+instant-found (UnitRow.Multiple k) r g q t f h e = go (inPeriods t k) refl e
   where
-    held : holdsTime (t *ℤ pos k) ≡ true → ⊥
-    held e =
-        let g = holds-fits (t *ℤ pos k) e in
-        let p = product-place greatestNumber greatestNumber k h (omega arith) t f (g .0) (number-within (t *ℤ pos k) (g .0) (g .1)) in
-        miss (p .0, place-back q (biased t) (p .0) (p .1))
+    go : (a : OffsetAnswer) → inPeriods t k ≡ a → isNone (offsetRefusal a) ≡ true → IsMultiple r (biased t)
+    go (OffsetAnswer.Is m) e i = instant-place k r (g .positive) t f q h m e
+    go (OffsetAnswer.Refused m) e i = absurd (false≢true i)
+instant-found (UnitRow.Fraction k) r g q t f h e = go (holdsTime (t *ℤ pos k)) refl e
+  where
+    go : (b : Bool) → holdsTime (t *ℤ pos k) ≡ b → isNone (offsetRefusal (cond b (OffsetAnswer.Is (t *ℤ pos k)) (OffsetAnswer.Refused Inexact))) ≡ true → IsMultiple r (biased t)
+    go true e i = held-place k r (g .0 .positive) t f q e
+    go false e i = absurd (false≢true i)
 
 pub ratio-unwritten : (row : UnitRow) (r : Ratio) → GoodRow row → WritesByRatio row r → (t : ℤ) → SFits w64 t → inRange ProlepticGregorian t ≡ true → (IsMultiple r (biased t) → ⊥) → writeByRow row t ≡ OffsetAnswer.Refused Inexact
 ratio-unwritten (UnitRow.Steps part) r g q t f i miss = absurd q
-ratio-unwritten (UnitRow.Multiple k) r g q t f i miss = multiple-unwritten k r (g .positive) q t f i miss
-ratio-unwritten (UnitRow.Fraction k) r g q t f i miss = fraction-unwritten k r (g .0 .positive) q t f miss
+ratio-unwritten (UnitRow.Multiple k) r g q t f i miss = multiple-unwritten k r (g .positive) t f q i miss
+ratio-unwritten (UnitRow.Fraction k) r g q t f i miss = fraction-unwritten k r (g .0 .positive) t f q miss

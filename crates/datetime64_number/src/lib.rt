@@ -3,9 +3,8 @@
 ghost use mathlib.Core.Path.{_≡_};
 ghost use mathlib.Core.Bool.{true, false};
 ghost use Prim.Native.Nat.{_*_, _≤_};
-ghost use Rattle.axis_types.specs.Reading.{isRead, instantOf, refusalOf, offsetOf, offsetRefusal};
+ghost use Rattle.axis_types.specs.Reading.{isNone, isRead, instantOf, refusalOf, offsetOf, offsetRefusal};
 ghost use Rattle.datetime64_type.specs.Units.{unitRowOf};
-ghost use mathlib.Core.Option.{none};
 ghost use lib.IntN.{pos};
 ghost use Rattle.calendar.specs.declared.Calendar.the-variants.{ProlepticGregorian};
 ghost use Rattle.step.specs.Closed.{monthsOf};
@@ -161,7 +160,7 @@ pub fn check_number(unit: UnitCode, conversion: Conversion, n: i64) -> NumberChe
 // The instant of a number that is known to be read.
 pub fn instant_read(unit: UnitCode, conversion: Conversion, n: i64) -> i64
     requires conversion { ⌜ Reads (unitRowOf unit) conversion ⌝ }
-    requires read { ⌜ refusalOf (readNumber unit n) ≡ none ⌝ }
+    requires read { ⌜ isRead (readNumber unit n) ≡ true ⌝ }
     ensures { λ t. ⌜ t ≡ instantOf (readNumber unit n) ⌝ }
 {
     match conversion {
@@ -217,7 +216,7 @@ pub fn check_instant(unit: UnitCode, conversion: Conversion, t: i64) -> NumberCh
 // The number of an instant that is known to be written.
 pub fn number_written(unit: UnitCode, conversion: Conversion, t: i64) -> i64
     requires conversion { ⌜ Writes (unitRowOf unit) conversion ⌝ }
-    requires written { ⌜ offsetRefusal (writeNumber unit t) ≡ none ⌝ }
+    requires written { ⌜ isNone (offsetRefusal (writeNumber unit t)) ≡ true ⌝ }
     ensures { λ n. ⌜ n ≡ offsetOf (writeNumber unit t) ⌝ }
 {
     match conversion {

@@ -1,9 +1,9 @@
 -- The place of a number among the multiples.
-use mathlib.Core.Path.{_≡_, refl, sym, ap, _∙_}
+use mathlib.Core.Path.{_≡_, refl, sym, ap, _∙_, subst}
 use Prim.Native.Nat.{ℕ, suc, _+_, _-_, _*_, _/_, _%_, _≤_, _<_}
 use native.Mathlib.Nat.{add-mul, mul-assoc, mul-le-mul-right, le-mul-of-pos-right}
 use native.Mathlib.Omega.{arith}
-use Rattle.ratio.specs.Multiples.{Place, Steps, Good, IsMultiple}
+use Rattle.ratio.specs.Multiples.{Place, Steps, reciprocalOf, IsRatio, Good, IsMultiple}
 use Rattle.ratio.specs.declared.Ratio.{Ratio}
 
 -- at most below + above steps
@@ -53,3 +53,17 @@ half i step e =
     let d : step ≡ step / 2 * 2 = omega (arith, e) in
     let f : i * step ≡ i * (step / 2) * 2 = ap (λ (n : ℕ). i * n) d ∙ sym (mul-assoc i (step / 2) 2) in
     omega (arith, f)
+
+-- a ratio of known steps
+pub good : {r : Ratio} {from to below above : ℕ} → IsRatio r from to below above → Good r
+good {r} {from} {to} {below} {above} q =
+    record {
+      from-is = refl;
+      to-is = refl;
+      below-is = refl;
+      above-is = refl;
+      reciprocal = q .reciprocal ∙ ap reciprocalOf (sym (q .from-is));
+      steps =
+          subst (λ (f : ℕ). Steps f (r .to) (r .below) (r .above)) (sym (q .from-is))
+          (subst (λ (t : ℕ). Steps from t (r .below) (r .above)) (sym (q .to-is)) (subst (λ (b : ℕ). Steps from to b (r .above)) (sym (q .below-is)) (subst (Steps from to below) (sym (q .above-is)) (q .steps))));
+    }

@@ -1,44 +1,48 @@
+-- `datetime64_number::check_instant` meets its contract.
+use mathlib.Core.Path.{_≡_, sym, ap, _∙_, subst}
+use lib.IntN.{ℤ}
+use mir.Syntax.{w64}
+use mir.ValLaws.{toZ-ofZ}
 use borrow.Author.Needs.{needs}
+use Rattle.axis_types.specs.Reading.{offsetRefusal}
+use Rattle.datetime64_type.specs.Units.{unitRowOf}
+use Rattle.datetime64_number.specs.Numbers.{writeNumber}
+use Rattle.datetime64_number.specs.Conversions.{Writes}
+use Rattle.datetime64_number.specs.declared.Conversion.{Conversion}
 use Rattle.datetime64_number.proofs.check_instant.Statement.{statement}
 use Rattle.datetime64_number.proofs.check_instant.Tie as tie
 
-enum-known-conversion : tie.Need-enum-known-conversion
-enum-known-conversion c = search needs
-
 write-steps-requires : tie.Need-write-steps-requires
-write-steps-requires c κs = ?
-
-enum-told : tie.Need-enum-told
-enum-told c = search needs
+write-steps-requires c κs = let k = c .before in let s = k .before .before in subst (Writes (unitRowOf (s .args .unit))) (k .conversion .given .1) (s .pre)
 
 returns : tie.Need-returns
-returns c = ?
-
-enum-known-r : tie.Need-enum-known-r
-enum-known-r c = search needs
+returns c =
+    let w = c .before .before in
+    let s = w .before .before .before .before in
+    sym (ap offsetRefusal (ap (writeNumber (s .args .unit)) (sym (toZ-ofZ w64 (s .args .t) (s .fits .t))) ∙ (sym (w .write-steps .ensures) ∙ c .enum-told .given .1)))
 
 returns-2 : tie.Need-returns-2
-returns-2 c = ?
-
-enum-known-conversion-2 : tie.Need-enum-known-conversion-2
-enum-known-conversion-2 c = search needs
+returns-2 c =
+    let w = c .before .before .before in
+    let s = w .before .before .before .before in
+    sym (ap offsetRefusal (ap (writeNumber (s .args .unit)) (sym (toZ-ofZ w64 (s .args .t) (s .fits .t))) ∙ (sym (w .write-steps .ensures) ∙ c .before .r .given .1)))
 
 check-fixed-instant-requires : tie.Need-check-fixed-instant-requires
-check-fixed-instant-requires c κs = ?
+check-fixed-instant-requires c κs = let k = c .before in let s = k .before .before in subst (Writes (unitRowOf (s .args .unit))) (k .conversion2 .given .1) (s .pre)
 
 returns-3 : tie.Need-returns-3
-returns-3 c = ?
+returns-3 c = let s = c .before .before .before .before in c .check-fixed-instant .ensures ∙ ap (λ (t : ℤ). offsetRefusal (writeNumber (s .args .unit) t)) (toZ-ofZ w64 (s .args .t) (s .fits .t))
 
 pub check-instant-spec : {M : Type 1} → statement M
 check-instant-spec =
     tie.close
     (tie.spec
-    enum-known-conversion
+    (λ c. search needs)
     write-steps-requires
-    enum-told
+    (λ c. search needs)
     returns
-    enum-known-r
+    (λ c. search needs)
     returns-2
-    enum-known-conversion-2
+    (λ c. search needs)
     check-fixed-instant-requires
     returns-3)

@@ -1,32 +1,36 @@
+-- `datetime64_number::check_number` meets its contract.
+use mathlib.Core.Path.{_≡_, sym, ap, _∙_, subst}
+use lib.IntN.{ℤ}
+use mir.Syntax.{w64}
+use mir.ValLaws.{toZ-ofZ}
 use borrow.Author.Needs.{needs}
+use Rattle.axis_types.specs.Reading.{refusalOf}
+use Rattle.datetime64_type.specs.Units.{unitRowOf}
+use Rattle.datetime64_number.specs.Numbers.{readNumber}
+use Rattle.datetime64_number.specs.Conversions.{Reads}
+use Rattle.datetime64_number.specs.declared.Conversion.{Conversion}
 use Rattle.datetime64_number.proofs.check_number.Statement.{statement}
 use Rattle.datetime64_number.proofs.check_number.Tie as tie
 
-enum-known-conversion : tie.Need-enum-known-conversion
-enum-known-conversion c = search needs
-
 check-steps-requires : tie.Need-check-steps-requires
-check-steps-requires c κs = ?
+check-steps-requires c κs = let k = c .before in let s = k .before .before in subst (Reads (unitRowOf (s .args .unit))) (k .conversion .given .1) (s .pre)
 
 returns : tie.Need-returns
-returns c = ?
-
-enum-known-conversion-2 : tie.Need-enum-known-conversion-2
-enum-known-conversion-2 c = search needs
+returns c = let s = c .before .before .before .before in c .check-steps .ensures ∙ ap (λ (n : ℤ). refusalOf (readNumber (s .args .unit) n)) (toZ-ofZ w64 (s .args .n) (s .fits .n))
 
 check-fixed-requires : tie.Need-check-fixed-requires
-check-fixed-requires c κs = ?
+check-fixed-requires c κs = let k = c .before in let s = k .before .before in subst (Reads (unitRowOf (s .args .unit))) (k .conversion2 .given .1) (s .pre)
 
 returns-2 : tie.Need-returns-2
-returns-2 c = ?
+returns-2 c = let s = c .before .before .before .before in c .check-fixed .ensures ∙ ap (λ (n : ℤ). refusalOf (readNumber (s .args .unit) n)) (toZ-ofZ w64 (s .args .n) (s .fits .n))
 
 pub check-number-spec : {M : Type 1} → statement M
 check-number-spec =
     tie.close
     (tie.spec
-    enum-known-conversion
+    (λ c. search needs)
     check-steps-requires
     returns
-    enum-known-conversion-2
+    (λ c. search needs)
     check-fixed-requires
     returns-2)

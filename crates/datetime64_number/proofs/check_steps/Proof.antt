@@ -1,44 +1,73 @@
+-- `datetime64_number::check_steps` meets its contract: proofs/Units.antt.
+use mathlib.Core.Path.{_≡_, refl, sym, ap, _∙_, subst}
+use mathlib.Core.Option.{Option, none}
+use Prim.Native.Nat.{_<_}
+use native.Mathlib.Omega.{arith}
+use lib.IntN.{ℤ, pos}
+use mir.Syntax.{w64}
+use mir.ValLaws.{toZ-ofZ}
 use borrow.Author.Needs.{needs}
+use Rattle.signed.specs.Bias.{biased}
+use Rattle.refusal.specs.declared.Refusal.{Refusal}
+use Rattle.calendar.specs.declared.Calendar.the-variants.{ProlepticGregorian}
+use Rattle.axis_types.specs.Reading.{refusalOf, isRead}
+use Rattle.axis_types.specs.declared.Reading.{Reading}
+use Rattle.axis_types.proofs.Answers.{was-read}
+use Rattle.calendar_axis.specs.Steps.{readFrom, readSteps}
+use Rattle.calendar_axis.proofs.Demands.{start-time, from-start}
+use Rattle.datetime64_number.specs.Numbers.{isNotATime, readNumber}
+use Rattle.datetime64_number.proofs.Ratios.{has-time}
+use Rattle.datetime64_number.proofs.Units.{not-a-time, read-steps}
 use Rattle.datetime64_number.proofs.check_steps.Statement.{statement}
 use Rattle.datetime64_number.proofs.check_steps.Tie as tie
 
-is-near-requires : tie.Need-is-near-requires
-is-near-requires c κs = search needs
-
 returns : tie.Need-returns
-returns c = ?
-
-biased-requires : tie.Need-biased-requires
-biased-requires c κs = search needs
+returns c =
+    let b = c .before in
+    let s = b .before in
+    let e = toZ-ofZ w64 (s .args .n) (s .fits .n) in
+    let g = b .is-near .ensures (c .if1 .taken) in
+    let w = was-read (readSteps (s .args .part) ProlepticGregorian (pos 0) (s .args .n)) (ap (λ (z : ℤ). isRead (readSteps (s .args .part) ProlepticGregorian (pos 0) z)) (sym e) ∙ g .1) in
+    sym (ap refusalOf (read-steps (s .args .unit) (s .args .part) (s .pre .0) (s .args .n) (ap isNotATime (sym e) ∙ g .0) ∙ w .2))
 
 returns-2 : tie.Need-returns-2
-returns-2 c = ?
+returns-2 c =
+    let b = c .before in
+    let s = b .before .before .before in
+    let e = b .biased .ensures ∙ ap biased (toZ-ofZ w64 (s .args .n) (s .fits .n)) in
+    sym (ap refusalOf (not-a-time (s .args .unit) (s .args .n) (s .fits .n) (sym e ∙ c .if2 .taken)))
 
 read-from-requires : tie.Need-read-from-requires
-read-from-requires c κs = ?
+read-from-requires c κs = let s = c .before .before .before .before in (s .pre .1 .year, start-time ProlepticGregorian (pos 0) (s .args .start) (s .pre .1))
 
-enum-told : tie.Need-enum-told
-enum-told c = search needs
+-- what is read from the start is what is read
+read-is : (b : tie.After-read-from) → let a = b .before .before .before .before .before .args in readNumber (a .unit) (a .n) ≡ b .read-from .result
+read-is b =
+    let k = b .before in
+    let s = k .before .before .before .before in
+    let n = s .args .n in
+    let e = toZ-ofZ w64 n (s .fits .n) in
+    let f : 0 < biased n = omega (arith, k .before .biased .ensures ∙ ap biased e, k .if2 .left) in
+    read-steps (s .args .unit) (s .args .part) (s .pre .0) n (has-time n f)
+    ∙ (sym (from-start (s .args .part) ProlepticGregorian (pos 0) (s .args .start) n (s .pre .1))
+    ∙ (ap (readFrom (s .args .part) ProlepticGregorian (s .args .start .date) (s .args .start .time)) (sym e) ∙ sym (b .read-from .ensures)))
 
 returns-3 : tie.Need-returns-3
-returns-3 c = ?
-
-enum-known-r : tie.Need-enum-known-r
-enum-known-r c = search needs
+returns-3 c = sym (ap refusalOf (read-is (c .before .before) ∙ c .enum-told .given .1))
 
 returns-4 : tie.Need-returns-4
-returns-4 c = ?
+returns-4 c = sym (ap refusalOf (read-is (c .before .before .before) ∙ c .before .r .given .1))
 
 pub check-steps-spec : {M : Type 1} → statement M
 check-steps-spec =
     tie.close
     (tie.spec
-    is-near-requires
+    (λ c κs. search needs)
     returns
-    biased-requires
+    (λ c κs. search needs)
     returns-2
     read-from-requires
-    enum-told
+    (λ c. search needs)
     returns-3
-    enum-known-r
+    (λ c. search needs)
     returns-4)
