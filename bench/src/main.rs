@@ -1,10 +1,10 @@
 //! Prints, for each call, the nanoseconds of the proved library and of plain Rust, and their ratio.
 //! The words after the command choose what is measured; none choose all.
 
-use bench::measure::{calendars, listing, offsets, runs, texts};
+use bench::measure::{calendars, datetime64, listing, offsets, runs, texts};
 use bench::timing;
 
-const MEASUREMENTS: [(&str, fn()); 11] = [
+const MEASUREMENTS: [(&str, fn()); 12] = [
     ("dates", calendars::dates),
     ("days", calendars::days),
     ("fields", calendars::fields),
@@ -16,6 +16,7 @@ const MEASUREMENTS: [(&str, fn()); 11] = [
     ("writing", offsets::writing),
     ("listing", listing::lines),
     ("growth", runs::growth),
+    ("datetime64", datetime64::arrays),
 ];
 
 fn main() {

@@ -2,8 +2,9 @@
 
 use answers::*;
 use bench::plain;
-use samples::{Random, instants};
+use samples::{Random, damage, datetime64, identifiers, instants};
 use second::boundary;
+use std::fmt::Debug;
 
 const COUNT: usize = 30_000;
 
@@ -115,5 +116,43 @@ fn units() {
         let text = [&starts[..], &dates, &times, &zones].map(|list| random.pick(list)).concat();
         let answer = unsafe { plain::units::read_units(name.as_ptr(), name.len(), text.as_ptr(), text.len()) };
         assert_eq!(answer, boundary::read_units(name, text.as_bytes()), "{text}");
+    }
+}
+
+type ArrayCall<A, B> = unsafe extern "C" fn(*const u8, usize, *const A, usize, *mut B, usize) -> RunAnswer;
+
+fn one_array<A, B: Clone + PartialEq + Debug>(
+    call: ArrayCall<A, B>,
+    second: fn(&[u8], &[A], &mut [B]) -> RunAnswer,
+    name: &[u8],
+    source: &[A],
+    room: &[B],
+) {
+    let (mut ours, mut others) = (room.to_vec(), room.to_vec());
+    let (from, to) = (source.as_ptr(), ours.as_mut_ptr());
+    let answer = unsafe { call(name.as_ptr(), name.len(), from, source.len(), to, room.len()) };
+    assert_eq!(answer, second(name, source, &mut others), "{}", name.escape_ascii());
+    assert_eq!(ours, others);
+}
+
+/// Short arrays, with identifiers, lengths and rooms that fit or do not.
+#[test]
+fn datetime64_arrays() {
+    let mut random = Random::seeded(16);
+    for _ in 0..COUNT {
+        let (name, of) = identifiers::types().swap_remove(random.below(26) as usize);
+        let name = if random.one_in(20) { damage::damaged(&mut random, name).1 } else { name };
+        let length = random.below(4);
+        let numbers: Vec<i64> = (0..length).map(|_| datetime64::number(&mut random, of.unit).1).collect();
+        let mut records = datetime64::records(of.order, &numbers);
+        if random.one_in(20) {
+            records.pop();
+        }
+        let room = random.pick(&[0, 2, 3, 3, 3, 5]);
+        let read = plain::datetime64::read_datetime64;
+        one_array(read, boundary::read_datetime64, &name, &records, &vec![7; room]);
+        let instants: Vec<i64> = (0..length).map(|_| datetime64::instant(&mut random, of.unit).1).collect();
+        let write = plain::datetime64::write_datetime64;
+        one_array(write, boundary::write_datetime64, &name, &instants, &vec![7; 8 * room + 1]);
     }
 }

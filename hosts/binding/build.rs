@@ -5,7 +5,7 @@ use std::path::Path;
 use std::{env, fs};
 
 /// `listing` is the program target/bin/listing.
-const CALLS: [&str; 13] = [
+const CALLS: [&str; 15] = [
     "read_units",
     "read_iso",
     "write_iso",
@@ -18,6 +18,8 @@ const CALLS: [&str; 13] = [
     "write_fields",
     "read_wholes",
     "read_doubles",
+    "read_datetime64",
+    "write_datetime64",
     "listing",
 ];
 

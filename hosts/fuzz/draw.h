@@ -1,4 +1,4 @@
-/* Inputs drawn from a seed: codes, instants, offsets and texts, good, damaged and at random. */
+/* Inputs drawn from a seed: codes, instants, offsets, texts and datetime64 arrays, good, damaged and at random. */
 #ifndef DRAW_H
 #define DRAW_H
 
@@ -131,6 +131,38 @@ static size_t text(uint8_t *room, int is_units) {
 static size_t name(uint8_t *room) {
     size_t length = put(room, 0, PICK(NAMES));
     return below(10) == 0 ? damaged(room, length) : length;
+}
+
+enum { MOST_OFFSETS = 200, RECORD = 8 };
+
+/* A unit's code, and so many of it from one number that is read to the next. */
+static const struct { const char *code; int64_t step; } CODES[] = {{"Y", 1}, {"M", 1}, {"W", 1}, {"D", 1}, {"h", 1}, {"m", 1},
+    {"s", 1}, {"ms", 1}, {"us", 1}, {"ns", 1000}, {"ps", 1000000}, {"fs", 1000000000}, {"as", 1000000000000}};
+
+typedef struct {
+    uint8_t identifier[MOST_BYTES], bytes[RECORD * MOST_OFFSETS];
+    size_t identifier_len, length;
+} datetime64_array;
+
+static void put_record(uint8_t *to, int64_t number, int is_big) {
+    for (int i = 0; i < RECORD; i++)
+        to[i] = (uint8_t)((uint64_t)number >> 8 * (is_big ? RECORD - 1 - i : i));
+}
+
+/* So many records, most often all of numbers that are read; the identifier is damaged now and then, and the last record cut. */
+static void array(datetime64_array *to, size_t n) {
+    size_t unit = (size_t)below(sizeof CODES / sizeof *CODES);
+    int is_big = (int)below(2), is_tame = below(4) != 0;
+    size_t end = put(to->identifier, put(to->identifier, 0, is_big ? ">M8[" : "<M8["), CODES[unit].code);
+    end = put(to->identifier, end, "]");
+    to->identifier_len = below(10) == 0 ? damaged(to->identifier, end) : end;
+    for (size_t i = 0; i < n; i++) {
+        int64_t good = ((int64_t)below(16000) - 8000) * CODES[unit].step, other = below(8) == 0 ? INT64_MIN : number();
+        put_record(to->bytes + RECORD * i, is_tame || below(n) != 0 ? good : other, is_big);
+    }
+    to->length = RECORD * n;
+    if (n > 0 && below(16) == 0)
+        to->length -= (size_t)below(RECORD);
 }
 
 #endif

@@ -6,7 +6,8 @@
  * the input of one call, most often makes it twice, and tests that
  *   - the answers are the same, the number is one of the table, and a refusal has zeros beside its number;
  *   - what is lent to be read stays, what is lent to be written is written only where the answer says, and nothing beside it;
- *   - other calls agree: an offset read is written back, an element of a run reads as it does alone, a text is read back.
+ *   - other calls agree: an offset or a record read is written back, an element of a run reads as it does alone, a text is read
+ *     back.
  * The first failure ends the run with status 1. */
 #include "lent.h"
 
@@ -22,11 +23,15 @@
 #pragma weak uppinalo_write_fields
 #pragma weak uppinalo_read_wholes
 #pragma weak uppinalo_read_doubles
+#pragma weak uppinalo_read_datetime64
+#pragma weak uppinalo_write_datetime64
+
+enum { MOST_NUMBER = 10, CALLS = 14 };
 
 static unsigned long long turn;
 static const char *call = "";
 static size_t row;
-static unsigned long long answered[12][9];
+static unsigned long long answered[CALLS][MOST_NUMBER + 1];
 
 static void require(int holds, const char *what) {
     if (holds)
@@ -39,7 +44,7 @@ static void require(int holds, const char *what) {
 #define SAME(a, b) (memcmp(&(a), &(b), sizeof(a)) == 0)
 
 static void count(uint32_t given) {
-    require(given <= 8, "a number that the table does not have");
+    require(given <= MOST_NUMBER, "a number that the table does not have");
     answered[row][given]++;
 }
 
@@ -207,8 +212,6 @@ static void write_fields(void) {
     }
 }
 
-enum { MOST_OFFSETS = 200 };
-
 /* What every answer to a run has; where it is refused, the place is one of the run's. */
 static void require_run(uppinalo_run_answer answer, size_t n, size_t m) {
     require(answer.number != 0 ? answer.length == 0 && answer.rounded == 0 : answer.length == n && answer.place == 0,
@@ -220,12 +223,13 @@ static void require_run(uppinalo_run_answer answer, size_t n, size_t m) {
     require(is_kept_after(&rooms, 8 * answer.length), "more than the run is written");
 }
 
-static size_t room_for(size_t n) {
+/* Room for n elements of so many bytes, or for more, or too little of it. Answers for how many. */
+static size_t room_for(size_t n, size_t size) {
     static uint8_t filled[8 * (MOST_OFFSETS + 16)];
     size_t m = below(8) == 0 ? (size_t)below(n + 1) : n + (size_t)below(2) * (size_t)below(16);
-    for (size_t i = 0; i < 8 * m; i++)
+    for (size_t i = 0; i < size * m; i++)
         filled[i] = (uint8_t)bits();
-    lend(&rooms, filled, 8 * m);
+    lend(&rooms, filled, size * m);
     return m;
 }
 
@@ -251,7 +255,7 @@ static void read_wholes(void) {
     for (size_t i = 0; i < n; i++)
         drawn[i] = is_tame ? (int64_t)below(2000) - 1000 : whole_offset();
     const int64_t *source = lend(&sources, drawn, 8 * n);
-    m = room_for(n);
+    m = room_for(n, 8);
     uppinalo_run_answer answer = uppinalo_read_wholes(on, source, n, (int64_t *)(void *)rooms.start, m);
     count(answer.number);
     require_run(answer, n, m);
@@ -267,11 +271,81 @@ static void read_doubles(void) {
     for (size_t i = 0; i < n; i++)
         drawn[i] = is_tame ? ((double)below(1u << 20) - 524288.0) / 512.0 : double_offset();
     const double *source = lend(&sources, drawn, 8 * n);
-    m = room_for(n);
+    m = room_for(n, 8);
     uppinalo_run_answer answer = uppinalo_read_doubles(on, source, n, (int64_t *)(void *)rooms.start, m);
     count(answer.number);
     require_run(answer, n, m);
     REQUIRE_ALONE(answer, uppinalo_read_double, on, drawn, (const int64_t *)(const void *)rooms.start, n);
+}
+
+/* What every answer about a datetime64 array has. */
+static void require_array(uppinalo_run_answer answer, size_t n, size_t m) {
+    uint32_t given = answer.number;
+    require_run(answer, n, m);
+    require(is_kept_after(&names, 0), "the identifier is changed");
+    require(answer.rounded == 0, "a record is rounded");
+    require(answer.place == 0 || given == 5 || given == 6 || given == 10, "a place where no element is at fault");
+}
+
+static void read_datetime64(void) {
+    static datetime64_array of;
+    array(&of, length());
+    size_t n = of.length / RECORD, m;
+    const uint8_t *name = lend(&names, of.identifier, of.identifier_len), *source = lend(&sources, of.bytes, of.length);
+    m = room_for(n, 8);
+    int64_t *written = (int64_t *)(void *)rooms.start, first[MOST_OFFSETS];
+    uppinalo_run_answer answer = uppinalo_read_datetime64(name, of.identifier_len, source, of.length, written, m);
+    count(answer.number);
+    require_array(answer, n, m);
+    require(of.length % RECORD == 0 || answer.number == 9 || answer.number == 3, "a part of a record is not refused");
+    for (size_t i = 0; i < answer.length; i++)
+        require(is_in_range(UPPINALO_PROLEPTIC_GREGORIAN, written[i]), "an instant past the range");
+    if (answer.number == 5 || answer.number == 6 || answer.number == 10) {
+        size_t at = RECORD * answer.place;
+        uppinalo_run_answer before = uppinalo_read_datetime64(name, of.identifier_len, source, at, first, MOST_OFFSETS);
+        uppinalo_run_answer alone = uppinalo_read_datetime64(name, of.identifier_len, source + at, RECORD, first, 1);
+        require(before.number == 0 && alone.number == answer.number, "a record is refused otherwise alone");
+    }
+    if (uppinalo_write_datetime64 && answer.number == 0) {
+        uint8_t back[RECORD * MOST_OFFSETS];
+        uppinalo_run_answer again = uppinalo_write_datetime64(name, of.identifier_len, written, n, back, sizeof back);
+        require(again.number == 0 && again.length == n, "the instants of records are not written");
+        require(n == 0 || memcmp(back, of.bytes, RECORD * n) == 0, "the instants are written as other records");
+    }
+}
+
+/* Instants that an array reads as, or any. */
+static void instants_of(const datetime64_array *of, size_t n, int64_t *to) {
+    const uint8_t *name = of->identifier, *bytes = of->bytes;
+    if (uppinalo_read_datetime64 && below(4) != 0 &&
+        uppinalo_read_datetime64(name, of->identifier_len, bytes, RECORD * n, to, n).number == 0)
+        return;
+    for (size_t i = 0; i < n; i++)
+        to[i] = instant();
+}
+
+static void write_datetime64(void) {
+    static datetime64_array of;
+    int64_t drawn[MOST_OFFSETS], back[MOST_OFFSETS];
+    size_t n = length(), m;
+    array(&of, n);
+    instants_of(&of, n, drawn);
+    const uint8_t *name = lend(&names, of.identifier, of.identifier_len);
+    const int64_t *source = lend(&sources, drawn, 8 * n);
+    m = room_for(RECORD * n, 1);
+    uppinalo_run_answer answer = uppinalo_write_datetime64(name, of.identifier_len, source, n, rooms.start, m);
+    count(answer.number);
+    require_array(answer, n, m / RECORD);
+    if (answer.number == 5 || answer.number == 6) {
+        uint8_t one[RECORD];
+        uppinalo_run_answer alone = uppinalo_write_datetime64(name, of.identifier_len, source + answer.place, 1, one, RECORD);
+        require(alone.number == answer.number && alone.place == 0, "an instant is refused otherwise alone");
+    }
+    if (uppinalo_read_datetime64 && answer.number == 0) {
+        uppinalo_run_answer again = uppinalo_read_datetime64(name, of.identifier_len, rooms.start, RECORD * n, back, n);
+        require(again.number == 0 && again.length == n, "the records of instants are not read");
+        require(n == 0 || memcmp(back, drawn, 8 * n) == 0, "the records read as other instants");
+    }
 }
 
 typedef void (*any_call)(void);
@@ -290,15 +364,17 @@ static const struct { const char *name; void (*round)(void); any_call exported; 
     {"write_fields", write_fields, (any_call)uppinalo_write_fields},
     {"read_wholes", read_wholes, (any_call)uppinalo_read_wholes},
     {"read_doubles", read_doubles, (any_call)uppinalo_read_doubles},
+    {"read_datetime64", read_datetime64, (any_call)uppinalo_read_datetime64},
+    {"write_datetime64", write_datetime64, (any_call)uppinalo_write_datetime64},
 };
-enum { CALLS = sizeof ROUNDS / sizeof *ROUNDS };
+_Static_assert(sizeof ROUNDS / sizeof *ROUNDS == CALLS, "a row of `answered` for each call");
 
 static void print_counts(void) {
-    printf("fuzz: how often each number was answered%12s 0 to 8\n", "");
+    printf("fuzz: how often each number was answered, 0 to %d\n", MOST_NUMBER);
     for (size_t i = 0; i < CALLS; i++) {
-        printf("  %-14s", ROUNDS[i].name);
-        for (int given = 0; given < 9 && ROUNDS[i].exported; given++)
-            printf("%9llu", answered[i][given]);
+        printf("  %-16s", ROUNDS[i].name);
+        for (int given = 0; given <= MOST_NUMBER && ROUNDS[i].exported; given++)
+            printf("%8llu", answered[i][given]);
         printf(ROUNDS[i].exported ? "\n" : "  not exported yet, not tried\n");
     }
 }

@@ -1,6 +1,7 @@
 //! What is measured: each call of the archive beside its plain Rust, on the same inputs.
 
 pub mod calendars;
+pub mod datetime64;
 pub mod listing;
 pub mod offsets;
 pub mod runs;

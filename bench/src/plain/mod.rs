@@ -1,9 +1,11 @@
-//! Document 01 in plain Rust: closed formulas, machine arithmetic, no proof. Each public function is called as the
+//! The archive's calls in plain Rust: closed formulas, machine arithmetic, no proof. Each public function is called as the
 //! archive's are, by the C calling convention and never inlined, and answers the same structs.
 //! It is here to be timed against; tests hold it to the second program's answers.
 
 pub mod civil;
 pub mod clock;
+pub mod datetime64;
+mod datetime64_units;
 pub mod days;
 pub mod doubles;
 pub mod iso;

@@ -53,3 +53,15 @@ pub fn read_doubles(axis: Axis, source: &[f64], destination: &mut [i64]) -> RunA
     let (from, n) = (source.as_ptr(), source.len());
     unsafe { raw::uppinalo_read_doubles(axis, from, n, destination.as_mut_ptr(), destination.len()) }
 }
+
+pub fn read_datetime64(identifier: &[u8], records: &[u8], destination: &mut [i64]) -> RunAnswer {
+    let (name, name_len) = (identifier.as_ptr(), identifier.len());
+    let (to, room) = (destination.as_mut_ptr(), destination.len());
+    unsafe { raw::uppinalo_read_datetime64(name, name_len, records.as_ptr(), records.len(), to, room) }
+}
+
+pub fn write_datetime64(identifier: &[u8], instants: &[i64], records: &mut [u8]) -> RunAnswer {
+    let (name, name_len) = (identifier.as_ptr(), identifier.len());
+    let (to, room) = (records.as_mut_ptr(), records.len());
+    unsafe { raw::uppinalo_write_datetime64(name, name_len, instants.as_ptr(), instants.len(), to, room) }
+}

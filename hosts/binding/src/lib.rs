@@ -10,6 +10,7 @@
 mod axis;
 pub mod boundary;
 mod calendar;
+pub mod datetime64;
 pub mod raw;
 mod refusal;
 

@@ -30,4 +30,8 @@ calls! {
     "write_fields" uppinalo_write_fields(axis: Axis, fields: Fields) -> OffsetAnswer;
     "read_wholes" uppinalo_read_wholes(axis: Axis, source: *const i64, n: usize, destination: *mut i64, room: usize) -> RunAnswer;
     "read_doubles" uppinalo_read_doubles(axis: Axis, source: *const f64, n: usize, destination: *mut i64, room: usize) -> RunAnswer;
+    "read_datetime64" uppinalo_read_datetime64(identifier: *const u8, identifier_len: usize, records: *const u8, records_len: usize,
+        destination: *mut i64, room: usize) -> RunAnswer;
+    "write_datetime64" uppinalo_write_datetime64(identifier: *const u8, identifier_len: usize, instants: *const i64, n: usize,
+        records: *mut u8, records_room: usize) -> RunAnswer;
 }

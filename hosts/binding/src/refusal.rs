@@ -56,7 +56,9 @@ impl Refusal {
         match self {
             Refusal::TextTooLong => "the text is longer than 128 bytes",
             Refusal::UnknownCalendar => "the calendar is not one of the six",
-            Refusal::IllFormed => "the text is not of the form that its grammar gives, or a code names no period or mode",
+            Refusal::IllFormed => {
+                "the text is not of the form that its grammar gives, or a code names no period or mode"
+            }
             Refusal::NoSuchDate => "the date or the time of day does not exist in the calendar",
             Refusal::OutOfRange => "the year or the instant lies past -9999 to 9999",
             Refusal::Inexact => {
@@ -84,7 +86,8 @@ impl Display for Refusal {
 
 impl Error for Refusal {}
 
-/// Why a run is refused, and the place, from 0, of its first refused offset. The place is 0 where no offset is at fault.
+/// Why a run is refused, and the place, from 0, of the first of its offsets, records or instants that is. The place is 0 where none of
+/// them is at fault.
 #[derive(Clone, Copy, PartialEq, Eq, Debug)]
 pub struct RefusedRun {
     pub refusal: Refusal,

@@ -21,7 +21,18 @@ fn axis(calendar: Calendar, period: Period, mode: Mode, reference: i64) -> Axis 
 fn words() {
     use Refusal::*;
     let readme = include_str!("../../../README.md");
-    for refusal in [TextTooLong, UnknownCalendar, IllFormed, NoSuchDate, OutOfRange, Inexact, NoRoom, NotFinite, PartRecord, NotATime] {
+    for refusal in [
+        TextTooLong,
+        UnknownCalendar,
+        IllFormed,
+        NoSuchDate,
+        OutOfRange,
+        Inexact,
+        NoRoom,
+        NotFinite,
+        PartRecord,
+        NotATime,
+    ] {
         let row = format!("\n| {} | {} |\n", refusal.number(), refusal.words());
         assert!(readme.contains(&row), "{refusal}");
     }
@@ -118,4 +129,41 @@ fn runs() {
     assert_eq!(days.read_wholes(&[0; 4], &mut room), Err(short));
     assert_eq!(room, [NOON, 8_640_000_000, 7]);
     assert_eq!(days.read_wholes(&[], &mut []), Ok(Run { length: 0, rounded: 0 }));
+}
+
+#[test]
+fn datetime64_read() {
+    if !are_exported(&["read_datetime64"]) {
+        return;
+    }
+    let records: Vec<u8> = [1i64, -1].iter().flat_map(|number| number.to_be_bytes()).collect();
+    let mut room = [7; 3];
+    assert_eq!(datetime64::read(">M8[D]", &records, &mut room), Ok(2));
+    assert_eq!(room, [2 * NOON, -2 * NOON, 7]);
+    let refused = |refusal, place| Err(RefusedRun { refusal, place });
+    assert_eq!(datetime64::read(">m8[D]", &records, &mut room), refused(Refusal::IllFormed, 0));
+    assert_eq!(datetime64::read(">M8[D]", &records[1..], &mut room), refused(Refusal::PartRecord, 0));
+    assert_eq!(datetime64::read(">M8[D]", &records, &mut room[..1]), refused(Refusal::NoRoom, 0));
+    assert_eq!(datetime64::read("<M8[D]", &records, &mut room), refused(Refusal::OutOfRange, 0));
+    assert_eq!(datetime64::read(">M8[ns]", &records, &mut room), refused(Refusal::Inexact, 0));
+    let not_a_time = [[0; 8], i64::MIN.to_le_bytes()].concat();
+    assert_eq!(datetime64::read("<M8[Y]", &not_a_time, &mut room), refused(Refusal::NotATime, 1));
+    assert_eq!(room, [2 * NOON, -2 * NOON, 7]);
+    assert_eq!(datetime64::read("<M8[as]", &[], &mut []), Ok(0));
+}
+
+#[test]
+fn datetime64_written() {
+    if !are_exported(&["write_datetime64"]) {
+        return;
+    }
+    let mut room = [7; 2 * datetime64::RECORD + 1];
+    assert_eq!(datetime64::write("<M8[h]", &[NOON, 0], &mut room), Ok(2));
+    assert_eq!(room, [12, 0, 0, 0, 0, 0, 0, 0, 0, 0, 0, 0, 0, 0, 0, 0, 7]);
+    let refused = |refusal, place| Err(RefusedRun { refusal, place });
+    assert_eq!(datetime64::write("<M8[h]", &[0, 1], &mut room), refused(Refusal::Inexact, 1));
+    assert_eq!(datetime64::write("<M8[h]", &[NOON, i64::MAX], &mut room), refused(Refusal::OutOfRange, 1));
+    assert_eq!(datetime64::write("<M8[h]", &[0; 3], &mut room), refused(Refusal::NoRoom, 0));
+    assert_eq!(datetime64::write("<M8[2h]", &[0], &mut room), refused(Refusal::IllFormed, 0));
+    assert_eq!(room[0], 12);
 }

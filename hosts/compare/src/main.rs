@@ -5,8 +5,10 @@
 //! Compares the calls named, or all that hosts/calls.txt lists. Prints how often each kind of input had each number for its
 //! answer. Inputs are drawn from a seed, so every run has the same. The exit status is 1 where an answer or a lent byte differs.
 
+mod arrays;
 mod axes;
 mod calendars;
+mod datetime64;
 mod lent;
 mod listing;
 mod offsets;
@@ -20,7 +22,7 @@ use std::process::ExitCode;
 
 type Comparison = (&'static str, fn(&mut Run));
 
-const COMPARISONS: [Comparison; 13] = [
+const COMPARISONS: [Comparison; 15] = [
     ("date_of_day", calendars::date_of_day),
     ("day_of_date", calendars::day_of_date),
     ("fields_of", calendars::fields_of),
@@ -33,6 +35,8 @@ const COMPARISONS: [Comparison; 13] = [
     ("write_fields", writing::write_fields),
     ("read_wholes", runs::read_wholes),
     ("read_doubles", runs::read_doubles),
+    ("read_datetime64", datetime64::read_datetime64),
+    ("write_datetime64", datetime64::write_datetime64),
     ("listing", listing::listing),
 ];
 

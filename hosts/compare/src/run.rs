@@ -12,8 +12,10 @@ pub enum Scale {
     Long,
 }
 
-/// How often each number was answered: 0 to 8.
-type Counts = [u64; 9];
+/// The greatest number that a call answers.
+const MOST: usize = 10;
+/// How often each number was answered.
+type Counts = [u64; MOST + 1];
 
 pub struct Run {
     call: &'static str,
@@ -54,7 +56,7 @@ impl Run {
         ours: A,
         second: A,
     ) {
-        self.kinds.entry(kind).or_default()[number.min(8) as usize] += 1;
+        self.kinds.entry(kind).or_default()[MOST.min(number as usize)] += 1;
         if ours != second {
             self.differs(kind, input, &format!("archive {ours:?}\n    second  {second:?}"));
         }
@@ -91,7 +93,7 @@ impl Run {
 
     /// A row for each kind of input, with a column for each number that the call answered.
     pub fn print(&self) {
-        let numbers: Vec<usize> = (0..9).filter(|&n| self.kinds.values().any(|counts| counts[n] > 0)).collect();
+        let numbers: Vec<usize> = (0..=MOST).filter(|&n| self.kinds.values().any(|counts| counts[n] > 0)).collect();
         let heads: String = numbers.iter().map(|n| format!("{n:>10}")).collect();
         println!("  {:36}{heads}", "kind of input, and how often each number");
         for (kind, counts) in &self.kinds {

@@ -2,7 +2,9 @@
 
 pub mod damage;
 pub mod dates;
+pub mod datetime64;
 pub mod doubles;
+pub mod identifiers;
 pub mod instants;
 pub mod lines;
 pub mod random;

@@ -7,7 +7,7 @@ use crate::days::{date_of_day, day_of_date};
 use crate::reading::Reading;
 use crate::refusal::Refusal;
 use crate::runs::Refused;
-use crate::{instant, iso, reading, runs, units_text, writing};
+use crate::{datetime64, instant, iso, reading, runs, units_text, writing};
 
 pub fn read_units(calendar: &[u8], text: &[u8]) -> answers::AxisAnswer {
     match units_text::read_units(calendar, text) {
@@ -79,4 +79,12 @@ pub fn read_wholes(axis: answers::Axis, source: &[i64], destination: &mut [i64])
 pub fn read_doubles(axis: answers::Axis, source: &[f64], destination: &mut [i64]) -> answers::RunAnswer {
     let axis = axis_of(axis).map_err(|refusal| Refused { refusal, place: 0 });
     run_answer(axis.and_then(|axis| runs::read_doubles(axis, source, destination)))
+}
+
+pub fn read_datetime64(identifier: &[u8], records: &[u8], destination: &mut [i64]) -> answers::RunAnswer {
+    run_answer(datetime64::read(identifier, records, destination))
+}
+
+pub fn write_datetime64(identifier: &[u8], instants: &[i64], records: &mut [u8]) -> answers::RunAnswer {
+    run_answer(datetime64::write(identifier, instants, records))
 }

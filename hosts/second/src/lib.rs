@@ -1,9 +1,10 @@
-//! Document 01 implemented a second time, by other means than the proved library, so that the two can be compared.
+//! The rules of documents 01 and 02 that the proved library keeps, implemented a second time by other means, so that the two can be
+//! compared.
 //!
 //! - Day numbers come from a table that the next-day rule fills day by day (`days`).
 //! - A double is an exact fraction of big integers (`dyadic`), and rounding compares exact remainders (`nearest`).
-//! - A text is matched in every way that its grammar allows (`ways`, `date_text`, `units_text`).
-//! - Writing searches for the offset among the readings (`writing`).
+//! - A text is matched in every way that its grammar allows (`ways`, `date_text`, `units_text`, `datetime64_type`).
+//! - Writing searches for the offset, or the number of a record, among the readings (`writing`, `datetime64`).
 //!
 //! `boundary` has a counterpart for each call of the C boundary. It is slow, and nothing in it is proved.
 
@@ -13,6 +14,8 @@ pub mod calendar;
 pub mod calendar_mode;
 pub mod codes;
 pub mod date_text;
+pub mod datetime64;
+pub mod datetime64_type;
 pub mod days;
 pub mod dyadic;
 pub mod instant;

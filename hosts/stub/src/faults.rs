@@ -1,15 +1,22 @@
 //! Faults that the comparison tests must find, one at a time: UPPINALO_FAULT names it, and the call with the fault has the name's start.
 
+pub mod datetime64;
+
 use answers::*;
 use second::boundary;
 use std::sync::OnceLock;
 
 const DAY: i64 = 86_400_000_000;
 
+/// The fault that is asked for, or nothing.
+fn chosen() -> &'static str {
+    static CHOSEN: OnceLock<String> = OnceLock::new();
+    CHOSEN.get_or_init(|| std::env::var("UPPINALO_FAULT").unwrap_or_default())
+}
+
 /// Whether a fault is asked for.
 pub fn is_on(fault: &str) -> bool {
-    static CHOSEN: OnceLock<String> = OnceLock::new();
-    CHOSEN.get_or_init(|| std::env::var("UPPINALO_FAULT").unwrap_or_default()) == fault
+    chosen() == fault
 }
 
 /// The days of negative instants are found by division toward zero.

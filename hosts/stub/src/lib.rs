@@ -132,3 +132,29 @@ unsafe extern "C" fn uppinalo_read_doubles(
     }
     unsafe { boundary::read_doubles(axis, lent(source, n), lent_mut(destination, room)) }
 }
+
+#[unsafe(no_mangle)]
+unsafe extern "C" fn uppinalo_read_datetime64(
+    identifier: *const u8,
+    identifier_len: usize,
+    records: *const u8,
+    records_len: usize,
+    destination: *mut i64,
+    room: usize,
+) -> RunAnswer {
+    let (identifier, records) = unsafe { (lent(identifier, identifier_len), lent(records, records_len)) };
+    faults::datetime64::read(identifier, records, unsafe { lent_mut(destination, room) })
+}
+
+#[unsafe(no_mangle)]
+unsafe extern "C" fn uppinalo_write_datetime64(
+    identifier: *const u8,
+    identifier_len: usize,
+    instants: *const i64,
+    n: usize,
+    records: *mut u8,
+    records_room: usize,
+) -> RunAnswer {
+    let (identifier, instants) = unsafe { (lent(identifier, identifier_len), lent(instants, n)) };
+    faults::datetime64::write(identifier, instants, unsafe { lent_mut(records, records_room) })
+}
