@@ -47,8 +47,8 @@ def write_datetime64(instants: RunOrInstants, identifier: Text, out: Optional[An
     """The datetime64 array of instants of ``proleptic_gregorian``: each is written exactly, or none is and the place of the first
     that is refused is told.
 
-    >>> write_datetime64([0, 86_400_000_000], ">M8[D]", out=bytearray(16)).hex(" ", 8)
-    '0000000000000000 0000000000000001'
+    >>> write_datetime64([86_400_000_000], ">M8[D]", out=bytearray(8)).hex()
+    '0000000000000001'
 
     The instants are those of a run, or microseconds since 1970 as whole numbers; NumPy arrays of int64 and of datetime64[us],
     ``array.array`` of ``q`` and their memoryviews are read where they lie, and others are copied. Where NumPy is installed the
