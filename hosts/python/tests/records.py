@@ -27,24 +27,18 @@ def unit_of(identifier):
     return identifier[4:-1]
 
 
-def reading(unit, number):
-    """The refusal, or 0, and the instant of a number."""
-    if number == LEAST:
-        return 10, None
-    if unit in "YM":
-        years, months = (number, 0) if unit == "Y" else divmod(number, 12)
-        instant = midnight(1970 + years, 1 + months)
-    elif unit in PARTS:
-        instant, rest = divmod(number, PARTS[unit])
-        if rest:
-            return 6, None
-    else:
-        instant = number * LENGTHS[unit]
-    return (0, instant) if FIRST <= instant <= LAST else (5, None)
+def instant_of(unit, number):
+    """The instant of a number, of any year and cut to a whole microsecond, and what was cut off."""
+    if unit in PARTS:
+        return divmod(number, PARTS[unit])
+    if unit in LENGTHS:
+        return number * LENGTHS[unit], 0
+    years, months = (number, 0) if unit == "Y" else divmod(number, 12)
+    return midnight(1970 + years, 1 + months), 0
 
 
-def candidate(unit, instant):
-    """The only number of a unit that may read as an instant of the years."""
+def number_of(unit, instant):
+    """The number of an instant, of any size and cut to a whole one."""
     if unit in PARTS:
         return instant * PARTS[unit]
     if unit in LENGTHS:
@@ -55,13 +49,28 @@ def candidate(unit, instant):
     return years if unit == "Y" else 12 * years + date.month - 1
 
 
+def reading(unit, number):
+    """The refusal, or 0, and the instant of a number."""
+    if number == LEAST:
+        return 10, None
+    instant, rest = instant_of(unit, number)
+    if rest:
+        return 6, None
+    return (0, instant) if FIRST <= instant <= LAST else (5, None)
+
+
 def writing(unit, instant):
     """The refusal, or 0, and the number of an instant."""
     if not FIRST <= instant <= LAST:
         return 5, None
-    number = candidate(unit, instant)
-    is_number = LEAST < number <= MOST and reading(unit, number) == (0, instant)
-    return (0, number) if is_number else (6, None)
+    number = number_of(unit, instant)
+    is_written = LEAST < number <= MOST and instant_of(unit, number) == (instant, 0)
+    return (0, number) if is_written else (6, None)
+
+
+def ends(unit):
+    """The least and the greatest 64-bit number within the years; the least of all is not-a-time."""
+    return max(number_of(unit, FIRST), LEAST + 1), min(number_of(unit, LAST), MOST)
 
 
 def packed(identifier, numbers):
@@ -77,12 +86,12 @@ def raw(written):
 def numbers_of(unit, count, seed=1):
     """Numbers at the ends of what is read and of 64 bits, and random ones of any size, many of them within the years."""
     draw = random.Random(f"{unit} {seed}")
-    ends = {candidate(unit, FIRST), candidate(unit, LAST), 0, LEAST, MOST}
+    least, most = ends(unit)
     parts = PARTS.get(unit, 1)
-    near = {n + parts * d for n in ends for d in (-2, -1, 0, 1, 2)} | {n + d for n in ends for d in (-1, 1)}
-    low, high = max(candidate(unit, FIRST), LEAST), min(candidate(unit, LAST), MOST)
-    some = [draw.randrange(low, high) // parts * parts for _ in range(count)]
+    edges = {least // parts * parts, most // parts * parts, 0, LEAST, MOST}
+    near = {n + parts * d for n in edges for d in (-2, -1, 0, 1, 2)} | {n + d for n in edges for d in (-1, 1)}
     sizes = [draw.randrange(-(2**bits), 2**bits) for bits in range(1, 64)]
+    some = [draw.randrange(least, most) // parts * parts for _ in range(count)]
     return [n for n in [*sorted(near), *sizes, *some] if LEAST <= n <= MOST]
 
 

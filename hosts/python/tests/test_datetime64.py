@@ -160,7 +160,7 @@ class Sources(Case):
     def test_whatever_holds_bytes(self):
         for data in self.holders():
             run = read_datetime64(data, "<M8[s]")
-            self.assertEqual(run.instants, array.array("q", self.INSTANTS), data)
+            self.assertEqual(run.instants.tolist(), self.INSTANTS, data)
 
     def test_what_is_contiguous_is_not_copied(self):
         for data in self.holders()[:-2]:
@@ -170,7 +170,7 @@ class Sources(Case):
     def test_empty(self):
         for data in (b"", bytearray(), memoryview(b""), array.array("q")):
             run = read_datetime64(data, "<M8[Y]")
-            self.assertEqual((run.instants, len(run)), (array.array("q"), 0))
+            self.assertEqual((run.instants.tolist(), len(run)), ([], 0))
         for instants in ([], (), array.array("q"), range(0), read_datetime64(b"", ">M8[as]")):
             self.assertEqual(raw(write_datetime64(instants, ">M8[as]")), b"")
 

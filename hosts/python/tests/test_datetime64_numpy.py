@@ -28,8 +28,7 @@ def read_numbers(unit, count, seed):
 
 class Case(unittest.TestCase):
     def same(self, found, expected, about=""):
-        self.assertEqual((found.dtype, found.shape), (expected.dtype, expected.shape), about)
-        numpy.testing.assert_array_equal(found, expected, about)
+        self.assertEqual((found.dtype, found.shape, found.tobytes()), (expected.dtype, expected.shape, expected.tobytes()), about)
 
     def refused(self, number, place, call, *arguments, **named):
         with self.assertRaises(Refused) as caught:
@@ -39,24 +38,28 @@ class Case(unittest.TestCase):
 
 class Presence(unittest.TestCase):
     @needs(*BOTH)
-    def test_what_is_written_is_an_array_where_there_is_numpy(self):
+    def test_arrays_are_numpys_where_there_is_numpy(self):
         written = write_datetime64([DAY], ">M8[D]")
-        self.assertEqual(type(written), bytearray if numpy is None else numpy.ndarray)
-        self.assertEqual(raw(written), packed(">M8[D]", [1]))
+        run = read_datetime64(packed(">M8[D]", [1]), ">M8[D]")
+        expected = (bytearray, array.array) if numpy is None else (numpy.ndarray, numpy.ndarray)
+        self.assertEqual((type(written), type(run.instants)), expected)
+        self.assertEqual((raw(written), run.instants.tolist()), (packed(">M8[D]", [1]), [DAY]))
 
 
 @unittest.skipIf(numpy is None, "NumPy is not installed")
 class BesideNumpy(Case):
-    """NumPy tests no range and cuts what is finer than a microsecond, so it is asked for numbers that are read."""
+    """NumPy tests no range and cuts what is finer than a microsecond, so it is asked for numbers that are read; and not for the
+    least of them, where its own division leaves 64 bits."""
 
     @needs(*BOTH)
     def test_reading(self):
         for identifier in IDENTIFIERS:
-            numbers = read_numbers(unit_of(identifier), 2000, 4)
+            unit = unit_of(identifier)
+            numbers = [number for number in read_numbers(unit, 2000, 4) if number > LEAST + PARTS.get(unit, 0)]
             source = times(identifier, numbers)
             run = read_datetime64(source)
             self.same(run.datetime64(), source.astype("M8[us]"), identifier)
-            self.assertEqual(run.instants.tolist(), [reading(unit_of(identifier), number)[1] for number in numbers])
+            self.assertEqual(run.instants.tolist(), [reading(unit, number)[1] for number in numbers])
 
     @needs(*BOTH)
     def test_writing(self):

@@ -3,6 +3,7 @@
 from __future__ import annotations
 
 import array
+import functools
 import sys
 from typing import Any, Optional
 
@@ -20,15 +21,15 @@ def read_datetime64(data: Any, identifier: Optional[Text] = None, out: Optional[
 
     >>> chunk = bytes.fromhex("00006bc32d0bae17 00a023f4730eae17")
     >>> run = read_datetime64(chunk, "<M8[ns]")
-    >>> list(run.instants)
+    >>> run.instants.tolist()
     [1706313600000000, 1706317200000000]
 
     ``data`` is a NumPy array of datetime64, of any unit and byte order, or anything bytes-like that holds raw records, with
     their identifier: ``<`` or ``>`` for the byte order, then ``M8[``, one of ``Y M W D h m s ms us ns ps fs as``, and ``]``.
     An array's own identifier is its ``dtype.str``; to give another one with it is a ValueError. Records are read where they
-    lie; those with gaps between them or in another order are copied first. For a NumPy array the instants come in one, of its
-    shape unless it is of single bytes, and else in an ``array.array``. ``out`` is room for them that the caller lends; places
-    of it beyond the records keep what they had. Neither may be changed by another thread meanwhile.
+    lie; those with gaps between them or in another order are copied first. Where NumPy is installed the instants come in an
+    array of int64, of the shape of an array of records that was given, and else in an ``array.array``. ``out`` is room for them
+    that the caller lends; places of it beyond the records keep what they had. Neither may be changed by another thread meanwhile.
 
     NumPy's NaT is refused with 10, and a number of ``ns`` to ``as`` that is no whole count of microseconds with 6: nothing is cut.
     """
@@ -53,8 +54,8 @@ def write_datetime64(instants: RunOrInstants, identifier: Text, out: Optional[An
     The instants are those of a run, or microseconds since 1970 as whole numbers; NumPy arrays of int64 and of datetime64[us],
     ``array.array`` of ``q`` and their memoryviews are read where they lie, and others are copied. Where NumPy is installed the
     result is an array of the identifier's type, of the shape of an array that was given, and else a bytearray. ``out`` is room
-    that the caller lends, bytes or a datetime64 array of that type, and then the result; what lies beyond the records keeps
-    what it had.
+    that the caller lends, bytes or a datetime64 array of that type, and then it is the result; what lies beyond the records
+    keeps what it had.
 
     An instant that no number of the unit reads as is refused with 6.
     """
@@ -129,17 +130,27 @@ def _raw_room(out: Any, identifier: Text) -> Any:
     return out.view(numpy.int64)
 
 
-def _room_for_instants(source: Any, length: int) -> Instants:
-    numpy = sys.modules.get("numpy")
-    if numpy is None or not isinstance(source, numpy.ndarray):
-        return array.array("q", bytes(8 * length))
-    return numpy.empty(source.shape if source.itemsize == 8 else length, numpy.int64)  # type: ignore[no-any-return]
+def _room_for_instants(source: Any, count: int) -> Instants:
+    numpy = _installed_numpy()
+    if numpy is None:
+        return array.array("q", bytes(8 * count))
+    return numpy.empty(_shape(source, count), numpy.int64)  # type: ignore[no-any-return]
 
 
 def _room_for_records(source: Any, count: int) -> Any:
+    numpy = _installed_numpy()
+    return bytearray(8 * count) if numpy is None else numpy.empty(_shape(source, count), numpy.int64)
+
+
+def _shape(source: Any, count: int) -> Any:
+    """The shape of so many elements, which is that of an array that has as many."""
+    return source.shape if getattr(source, "size", None) == count else count
+
+
+@functools.lru_cache(maxsize=None)
+def _installed_numpy() -> Any:
     try:
         import numpy
     except ImportError:
-        return bytearray(8 * count)
-    is_whole_array = isinstance(source, numpy.ndarray) and source.size == count
-    return numpy.empty(source.shape if is_whole_array else count, numpy.int64)
+        return None
+    return numpy
