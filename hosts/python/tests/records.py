@@ -96,9 +96,10 @@ def numbers_of(unit, count, seed=1):
 
 
 def instants_of(unit, count, seed=1):
-    """Instants that are written in a unit, instants beside them, and some past the years."""
+    """Instants that are written in a unit, instants beside them, firsts of months, and some past the years."""
     draw = random.Random(f"{unit} {seed}")
     read = [instant for refusal, instant in (reading(unit, n) for n in numbers_of(unit, count, seed)) if refusal == 0]
     beside = [instant + draw.choice((-DAY, -1000, -1, 1, 1000, DAY)) for instant in read]
-    far = [draw.randrange(FIRST, LAST) for _ in range(count)]
-    return [*read, *beside, *far, FIRST - 1, FIRST, LAST, LAST + 1, LEAST, MOST]
+    firsts = [midnight(draw.randrange(-9999, 10_000), draw.randrange(1, 13)) for _ in range(count)]
+    others = [draw.randrange(FIRST, LAST) for _ in range(count)]
+    return [*read, *beside, *firsts, *others, FIRST - 1, FIRST, LAST, LAST + 1, LEAST, MOST]

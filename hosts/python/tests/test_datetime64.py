@@ -88,6 +88,19 @@ class Refusals(Case):
         self.assertIn("records of '<M8[25s]'", str(self.refused(3, None, read_datetime64, b"", "<M8[25s]")))
 
     @needs(*BOTH)
+    def test_identifiers_with_one_byte_changed(self):
+        changed = set()
+        for identifier in IDENTIFIERS:
+            for place in range(len(identifier) + 1):
+                before, after = identifier[:place], identifier[place:]
+                changed.add(before + after[1:])
+                for byte in "<>=|Mm8[]YWDhsunpfa 1\0~":
+                    changed |= {before + byte + after, before + byte + after[1:]}
+        for identifier in changed - {*IDENTIFIERS}:
+            self.refused(3, None, read_datetime64, b"", identifier)
+            self.refused(3, None, write_datetime64, [], identifier)
+
+    @needs(*BOTH)
     def test_a_part_of_a_record(self):
         for size in (1, 7, 9, 15, 4001):
             self.refused(9, None, read_datetime64, b"\x80" * size, ">M8[us]")
