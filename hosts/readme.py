@@ -3,7 +3,7 @@
 
     hosts/readme.py [--stub]
 
-- A block of C, Rust or Python is the file in EXAMPLES, byte for byte.
+- The blocks of C, Rust and Python are the files in EXAMPLES, in their order and byte for byte.
 - A block of commands is run in the repository, and its output is the next block of text, if there is one.
 - A command of `make` that is named anywhere is one that the Makefile has.
 
@@ -17,7 +17,11 @@ import subprocess
 import sys
 
 ROOT = pathlib.Path(__file__).resolve().parent.parent
-EXAMPLES = {"c": "hosts/c/example.c", "rust": "hosts/binding/examples/example.rs", "python": "hosts/python/example.py"}
+EXAMPLES = {
+    "c": ["hosts/c/example.c"],
+    "rust": ["hosts/binding/examples/example.rs"],
+    "python": ["hosts/python/example.py", "hosts/python/datetime64.py"],
+}
 STUB = [
     ("target/staticlib/", "target/stub/"),
     ("PYTHONPATH", "UPPINALO_LIBRARY=target/stub/libuppinalo.so PYTHONPATH"),
@@ -35,9 +39,14 @@ def listed(path):
 
 
 def needed(commands):
-    """The calls that a block of commands needs: all three examples make the same ones."""
-    calls = set(re.findall(r"uppinalo_(\w+)\(", (ROOT / EXAMPLES["c"]).read_text())) if "example" in commands else set()
-    return calls | ({"listing"} if "target/bin/listing" in commands else set())
+    """The calls that a block of commands needs: the examples of an axis make those of the one in C."""
+    example = (ROOT / EXAMPLES["c"][0]).read_text()
+    calls = {
+        "example": set(re.findall(r"uppinalo_(\w+)\(", example)),
+        "datetime64.py": {"read_datetime64", "write_datetime64", "write_iso"},
+        "target/bin/listing": {"listing"},
+    }
+    return set().union(*(named for word, named in calls.items() if word in commands))
 
 
 def run(commands):
@@ -70,11 +79,11 @@ def main():
     is_stub = sys.argv[1:] == ["--stub"]
     text = (ROOT / "README.md").read_text()
     found = blocks(text)
-    for language, content in found:
-        if language in EXAMPLES and content != (ROOT / EXAMPLES[language]).read_text():
-            sys.exit(f"README.md: its example in {language} is not {EXAMPLES[language]}")
+    for language, paths in EXAMPLES.items():
+        if [content for kind, content in found if kind == language] != [(ROOT / path).read_text() for path in paths]:
+            sys.exit(f"README.md: its examples in {language} are not {' and '.join(paths)}")
     if {language for language, _ in found} != {*EXAMPLES, "sh", "text"}:
-        sys.exit("README.md: an example is missing")
+        sys.exit("README.md: a block is missing, or of another language")
     check_targets(text)
     for place, (language, content) in enumerate(found):
         if language == "sh":

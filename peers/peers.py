@@ -1,9 +1,10 @@
 #!/usr/bin/env python3
-"""The same axes through cftime, xarray, NumPy, UDUNITS and through us. Prints the tables, and puts them into docs/PEERS.md.
+"""The same axes through cftime, xarray, NumPy, UDUNITS and through us, and datetime64 arrays through NumPy and through us. Prints
+the tables, and puts them into docs/PEERS.md.
 
     peers/run       has what this needs, and runs it
 
-Every difference has one of the reasons in agreement.py, or the run fails.
+Every difference has one of the reasons in agreement.py or datetime64.py, or the run fails.
 """
 import os
 import pathlib
@@ -12,6 +13,7 @@ import sys
 
 import agreement
 import axes
+import datetime64
 import timing
 from others import OTHERS
 
@@ -57,6 +59,23 @@ def texts():
     return table(["units text", "Uppinalo", *(reader.name for reader in readers)], rows)
 
 
+def arrays():
+    alike = {}
+    for unit, counts in datetime64.rows():
+        alike.setdefault(tuple(map(cell, counts)), []).append(f"`{unit}`")
+    rows = [[", ".join(units), *cells] for cells, units in alike.items()]
+    reasons = "".join(f"- **{why}**: {text}\n" for why, text in datetime64.REASONS.items())
+    return table(["unit", "read, within the years", "read, numbers of any size", "written"], rows) + "\n" + reasons
+
+
+def array_times(is_stub):
+    rows = [
+        [f"`{identifier}`", *(f"{figure:.2f}" for figure in best)]
+        for identifier, best in datetime64.timed(2_000 if is_stub else 1_000_000)
+    ]
+    return table(["nanoseconds for each record", "read by Uppinalo", "by NumPy", "written by Uppinalo", "by NumPy"], rows)
+
+
 def times(cases, is_stub):
     counts = {None: 2_000 if is_stub else 1_000_000, "cftime": 10_000, "xarray": 100_000, "NumPy": 1_000_000, "UDUNITS": 1_000_000}
     chosen = [(0, "standard"), (0, "noleap"), (3, "standard"), (5, "standard"), (16, "proleptic_gregorian")]
@@ -81,7 +100,13 @@ def main():
         "What each makes of a units text in `standard`, at offset 0:\n\n"
         f"{texts()}\n"
         f"Time for each offset, the best of {timing.LOTS} lots in one run and one thread, each answering in its own form:\n\n"
-        f"{times(cases, is_stub)}"
+        f"{times(cases, is_stub)}\n"
+        f"Of {axes.COUNT} records or instants of a datetime64 array, how many are the same by NumPy's `astype`, and how many of the others "
+        "differ for which reason. Half of the numbers from `ns` to `as` are whole counts of microseconds, and half of the instants are "
+        "times that the unit has:\n\n"
+        f"{arrays()}\n"
+        f"Time for each record, the best of {timing.LOTS} lots in the same run, reading to and writing from microseconds:\n\n"
+        f"{array_times(is_stub)}"
     )
     sys.stdout.write(text)
     before, rest = DOCUMENT.read_text().split(BEGIN)

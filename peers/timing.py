@@ -38,7 +38,11 @@ def measure(case, calendar, readers, counts):
         return lambda: axis.read_run(offsets)
 
     works = [ours(repeated(counts[None])), *(read(reader, repeated(counts[reader.name])) for reader in readers)]
-    sizes = [counts[None], *(counts[reader.name] for reader in readers)]
+    return best_of(works, [counts[None], *(counts[reader.name] for reader in readers)])
+
+
+def best_of(works, sizes):
+    """The best time of each work for one of its elements; None where it is not taken."""
     best = [_best_start(work) for work in works]
     for _ in range(LOTS):
         for place, work in enumerate(works):

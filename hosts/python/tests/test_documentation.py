@@ -4,12 +4,20 @@ import doctest
 import unittest
 
 import uppinalo
+from uppinalo import _datetime64
 
 from .calls import needs
 
 
 class Examples(unittest.TestCase):
+    def examples(self, module, count):
+        result = doctest.testmod(module, optionflags=doctest.ELLIPSIS)
+        self.assertEqual((result.failed, result.attempted), (0, count))
+
     @needs("read_units", "read_whole", "read_double", "write_instant", "write_iso")
     def test_examples(self):
-        result = doctest.testmod(uppinalo, optionflags=doctest.ELLIPSIS)
-        self.assertEqual((result.failed, result.attempted > 4), (0, True))
+        self.examples(uppinalo, 7)
+
+    @needs("read_datetime64", "write_datetime64")
+    def test_examples_of_datetime64(self):
+        self.examples(_datetime64, 4)

@@ -1,12 +1,14 @@
 """What has the wrong type is a TypeError, whatever it is; and threads may share all."""
 
+import array
+import datetime
 import decimal
 import fractions
 import threading
 import unittest
 
 from uppinalo import Axis, Calendar, Date, Fields, Mode, Period, Reading, calendar_of, date_of_day, day_of_date
-from uppinalo import fields_of, read_iso, write_iso
+from uppinalo import fields_of, read_datetime64, read_iso, write_datetime64, write_iso
 
 from .calls import needs
 
@@ -59,6 +61,22 @@ class WrongTypes(unittest.TestCase):
         for run in (None, 1, 1.5, "12", b"12", bytearray(8), object(), memoryview(bytes(8)).cast("c")):
             self.refused(axis.read_run, run)
         self.refused(axis.read_run, memoryview(bytes(32)).cast("d", (2, 2)))
+
+    def test_records(self):
+        for data in (None, 1, 1.5, "12345678", [], [1], object(), array.array("d", [1.0]), array.array("i", [1, 2])):
+            self.refused(read_datetime64, data, "<M8[s]")
+        for identifier in (None, 0, [], bytearray(b"<M8[s]"), object()):
+            self.refused(read_datetime64, bytes(8), identifier)
+            self.refused(write_datetime64, [0], identifier)
+        self.refused(read_datetime64, bytes(8))
+        self.refused(write_datetime64, [0])
+
+    def test_instants(self):
+        for number in [*NO_NUMBERS, 1.0, datetime.datetime(1970, 1, 1), Reading(0, True, Calendar.PROLEPTIC_GREGORIAN)]:
+            self.refused(write_datetime64, [0, number], "<M8[s]")
+        for instants in (None, 1, 1.5, "12", b"12", bytearray(8), object(), array.array("d", [1.0]), memoryview(bytes(8)).cast("d")):
+            self.refused(write_datetime64, instants, "<M8[s]")
+        self.refused(write_datetime64, memoryview(bytes(32)).cast("q", (2, 2)), "<M8[s]")
 
     @needs("fields_of")
     def test_times(self):

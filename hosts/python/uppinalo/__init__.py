@@ -8,7 +8,7 @@
     >>> axis.write(reading)
     Traceback (most recent call last):
     ...
-    uppinalo.Refused: refused 6: no whole offset reads as the instant; in calendar mode, the double is not whole: ...
+    uppinalo.Refused: refused 6: no whole offset or number of the unit reads as the instant; ...
 
 The work is done by a proved library, ``libuppinalo.so``; this package lends it Python's numbers, texts and arrays. Whatever
 the library refuses is the exception ``Refused``, and what has the wrong type a TypeError. It may be used from many threads.
@@ -16,6 +16,7 @@ the library refuses is the exception ``Refused``, and what has the wrong type a 
 
 from ._axis import Axis
 from ._codes import Calendar, Mode, Period
+from ._datetime64 import read_datetime64, write_datetime64
 from ._instants import Date, Fields, Reading, calendar_of, date_of_day, day_of_date, fields_of, read_iso, write_iso
 from ._refused import WORDS, Refused
 from ._runs import Run
@@ -35,7 +36,9 @@ __all__ = [
     "date_of_day",
     "day_of_date",
     "fields_of",
+    "read_datetime64",
     "read_iso",
+    "write_datetime64",
     "write_iso",
 ]
 

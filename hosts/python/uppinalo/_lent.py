@@ -33,7 +33,7 @@ _release.argtypes, _release.restype = [ctypes.POINTER(_Buffer)], None
 
 
 class Lent:
-    """Contiguous elements of eight bytes. While this is open, their owner can neither move nor resize them."""
+    """Contiguous memory. While this is open, its owner can neither move nor resize it."""
 
     def __init__(self, owner: Any, is_written: bool = False) -> None:
         self._buffer = _Buffer()
@@ -47,20 +47,32 @@ class Lent:
 
     @property
     def start(self) -> Optional[int]:
-        """The address, or None where there are no elements."""
+        """The address, or None where there are no bytes."""
         return int(self._buffer.start) if self._buffer.bytes else None
 
     @property
+    def size(self) -> int:
+        """The number of bytes."""
+        return int(self._buffer.bytes)
+
+    @property
     def length(self) -> int:
-        return int(self._buffer.bytes) // 8
+        """The number of elements of eight bytes."""
+        return self.size // 8
 
     @property
     def format(self) -> str:
-        """``d`` for doubles, ``q`` for signed numbers, and any other text for what is neither."""
+        """``d`` for doubles, ``q`` for signed 64-bit numbers, and any other text for what is neither."""
         form = (self._buffer.format or b"").decode().lstrip("@=<")
         if self._buffer.element_bytes != 8:
             return "other"
         return {"l": "q"}.get(form, form)
+
+    @property
+    def is_raw(self) -> bool:
+        """Whether the elements are bytes, or of eight bytes each and neither doubles nor objects."""
+        form = (self._buffer.format or b"B").decode().lstrip("@=<>!0123456789")
+        return form in ("B", "b", "c", "s", "x", "q", "Q", "l", "L") and self._buffer.element_bytes in (1, 8)
 
     @property
     def is_aligned(self) -> bool:
@@ -68,4 +80,4 @@ class Lent:
 
     def overlaps(self, other: Lent) -> bool:
         mine, others = self.start or 0, other.start or 0
-        return max(mine, others) < min(mine + 8 * self.length, others + 8 * other.length)
+        return max(mine, others) < min(mine + self.size, others + other.size)

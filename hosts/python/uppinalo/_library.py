@@ -61,6 +61,7 @@ class RunAnswer(Structure):
 
 _TEXTS = [c_char_p, c_size_t, c_char_p, c_size_t]
 _RUN = [AxisCodes, c_void_p, c_size_t, c_void_p, c_size_t]
+_RECORDS = [c_char_p, c_size_t, c_void_p, c_size_t, c_void_p, c_size_t]
 
 #: For each call, its answer and its arguments.
 CALLS: dict[str, tuple[Any, list[Any]]] = {
@@ -76,6 +77,8 @@ CALLS: dict[str, tuple[Any, list[Any]]] = {
     "write_fields": (OffsetAnswer, [AxisCodes, FieldNumbers]),
     "read_wholes": (RunAnswer, _RUN),
     "read_doubles": (RunAnswer, _RUN),
+    "read_datetime64": (RunAnswer, _RECORDS),
+    "write_datetime64": (RunAnswer, _RECORDS),
 }
 
 

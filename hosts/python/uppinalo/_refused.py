@@ -23,7 +23,7 @@ class Refused(ValueError):
     """A call that the library refuses.
 
     ``number`` is the refusal's number and ``words`` says it in plain words. ``place`` is the place, from 0, of the first
-    refused offset of a run, and None where it is not an offset of a run that is refused. ``subject`` is what was asked.
+    refused offset, record or instant of a run, and None where it is none of these that is refused. ``subject`` is what was asked.
     """
 
     def __init__(self, number: int, subject: str = "", place: Optional[int] = None) -> None:
