@@ -27,7 +27,7 @@ fn first_refused_record(t: Datetime64Type, bytes: &[u8]) -> Check
     let count = bytes.len() / 8;
     let mut i: usize = 0;
     while i < count {
-        let n = records::number_in(order, &bytes[8 * i..8 * i + 8]);
+        let n = records::number_at(order, bytes, i);
         match datetime64_number::check_number(unit, conversion, n) {
             NumberCheck::Refused(refusal) => {
                 return Check::Refused { refusal, place: i };
@@ -72,7 +72,7 @@ fn write_instants(t: Datetime64Type, bytes: &[u8], destination: &mut [i64])
     let count = bytes.len() / 8;
     let mut i: usize = 0;
     while i < count {
-        let n = records::number_in(order, &bytes[8 * i..8 * i + 8]);
+        let n = records::number_at(order, bytes, i);
         destination[i] = datetime64_number::instant_read(unit, conversion, n);
         i += 1;
     }

@@ -1,36 +1,65 @@
 // One record: eight bytes in either byte order.
 ghost use mathlib.Core.Path.{_≡_};
-ghost use Prim.Native.Nat.{_+_, _*_, _≤_};
-ghost use lib.ListN.{length, take, drop};
+ghost use Prim.Native.Nat.{_+_, _*_, _≤_, _<_};
+ghost use lib.ListN.{length, take, drop, getD};
 ghost use mir.Syntax.{w64};
 ghost use mir.Val.{toZ, ofZ};
-ghost use mathlib.Core.List.{reverse};
+ghost use mathlib.Core.List.{[], _∷_, _++_, reverse};
 ghost use Rattle.datetime64_runs.specs.Records.{littleEndian, littleBytes, numberIn, recordOf};
 use datetime64_type::ByteOrder;
 
-fn wide(b: u8) -> u64
-    ensures { λ r. ⌜ r ≡ b ⌝ }
+// The number of eight bytes.
+fn of_bytes(b0: u64, b1: u64, b2: u64, b3: u64, b4: u64, b5: u64, b6: u64, b7: u64) -> u64
+    requires { ⌜ (b0 < 256) × (b1 < 256) × (b2 < 256) × (b3 < 256) × (b4 < 256) × (b5 < 256) × (b6 < 256) × (b7 < 256) ⌝ }
+    ensures { λ w. ⌜ w ≡ littleEndian (b0 ∷ b1 ∷ b2 ∷ b3 ∷ b4 ∷ b5 ∷ b6 ∷ b7 ∷ []) ⌝ }
 {
-    b as u64
+    b0
+        + b1 * 0x100
+        + b2 * 0x1_0000
+        + b3 * 0x100_0000
+        + b4 * 0x1_0000_0000
+        + b5 * 0x100_0000_0000
+        + b6 * 0x1_0000_0000_0000
+        + b7 * 0x100_0000_0000_0000
 }
 
-// The number of eight bytes, each by its place: the compiler makes one load of it.
+fn byte_at(r: &[u8], k: usize) -> u64
+    requires { ⌜ k < length (now r) ⌝ }
+    ensures { λ b. ⌜ (b ≡ getD (now (r .entry)) k 0) × (b < 256) ⌝ }
+{
+    r[k] as u64
+}
+
+// The number of eight bytes, the least significant first. The compiler makes one load of it.
 fn little_endian(r: &[u8]) -> u64
     requires { ⌜ length (now r) ≡ 8 ⌝ }
     ensures { λ w. ⌜ w ≡ littleEndian (now (r .entry)) ⌝ }
 {
-    ((wide(r[0]) + wide(r[1]) * 0x100) + (wide(r[2]) * 0x1_0000 + wide(r[3]) * 0x100_0000))
-        + ((wide(r[4]) * 0x1_0000_0000 + wide(r[5]) * 0x100_0000_0000)
-            + (wide(r[6]) * 0x1_0000_0000_0000 + wide(r[7]) * 0x100_0000_0000_0000))
+    let b0 = byte_at(r, 0);
+    let b1 = byte_at(r, 1);
+    let b2 = byte_at(r, 2);
+    let b3 = byte_at(r, 3);
+    let b4 = byte_at(r, 4);
+    let b5 = byte_at(r, 5);
+    let b6 = byte_at(r, 6);
+    let b7 = byte_at(r, 7);
+    of_bytes(b0, b1, b2, b3, b4, b5, b6, b7)
 }
 
+// The same of bytes with the most significant first.
 fn big_endian(r: &[u8]) -> u64
     requires { ⌜ length (now r) ≡ 8 ⌝ }
     ensures { λ w. ⌜ w ≡ littleEndian (reverse (now (r .entry))) ⌝ }
 {
-    ((wide(r[7]) + wide(r[6]) * 0x100) + (wide(r[5]) * 0x1_0000 + wide(r[4]) * 0x100_0000))
-        + ((wide(r[3]) * 0x1_0000_0000 + wide(r[2]) * 0x100_0000_0000)
-            + (wide(r[1]) * 0x1_0000_0000_0000 + wide(r[0]) * 0x100_0000_0000_0000))
+    let b7 = byte_at(r, 0);
+    let b6 = byte_at(r, 1);
+    let b5 = byte_at(r, 2);
+    let b4 = byte_at(r, 3);
+    let b3 = byte_at(r, 4);
+    let b2 = byte_at(r, 5);
+    let b1 = byte_at(r, 6);
+    let b0 = byte_at(r, 7);
+    of_bytes(b0, b1, b2, b3, b4, b5, b6, b7)
 }
 
 // The signed number of 64 bits.
@@ -55,7 +84,7 @@ fn bits_of(n: i64) -> u64
 }
 
 // The number of a record.
-pub fn number_in(order: ByteOrder, r: &[u8]) -> i64
+fn number_in(order: ByteOrder, r: &[u8]) -> i64
     requires { ⌜ length (now r) ≡ 8 ⌝ }
     ensures { λ n. ⌜ n ≡ numberIn order (now (r .entry)) ⌝ }
 {
@@ -65,15 +94,12 @@ pub fn number_in(order: ByteOrder, r: &[u8]) -> i64
     }
 }
 
-// The record of a number.
-pub fn record_of(order: ByteOrder, n: i64) -> [u8; 8]
-    ensures { λ r. ⌜ r ≡ recordOf order n ⌝ }
+// The number of the record at place i.
+pub fn number_at(order: ByteOrder, bytes: &[u8], i: usize) -> i64
+    requires { ⌜ 8 * i + 8 ≤ length (now bytes) ⌝ }
+    ensures { λ n. ⌜ n ≡ numberIn order (take 8 (drop (8 * i) (now (bytes .entry)))) ⌝ }
 {
-    let w = bits_of(n);
-    match order {
-        ByteOrder::Little => return little_bytes(w),
-        ByteOrder::Big => return big_bytes(w),
-    }
+    number_in(order, &bytes[8 * i..8 * i + 8])
 }
 
 // The eight bytes of a number, the least significant first.
@@ -120,4 +146,24 @@ fn big_bytes(w: u64) -> [u8; 8]
         (w1 % 256) as u8,
         (w % 256) as u8,
     ]
+}
+
+// The record of a number.
+fn record_of(order: ByteOrder, n: i64) -> [u8; 8]
+    ensures { λ r. ⌜ r ≡ recordOf order n ⌝ }
+{
+    let w = bits_of(n);
+    match order {
+        ByteOrder::Little => return little_bytes(w),
+        ByteOrder::Big => return big_bytes(w),
+    }
+}
+
+// Writes the record of a number at place i.
+pub fn put_number(order: ByteOrder, bytes: &mut [u8], i: usize, n: i64)
+    requires { ⌜ 8 * i + 8 ≤ length (now bytes) ⌝ }
+    ensures { λ _. ⌜ now (bytes .exit) ≡ take (8 * i) (now (bytes .entry)) ++ (recordOf order n ++ drop (8 * i + 8) (now (bytes .entry))) ⌝ }
+{
+    let r = record_of(order, n);
+    bytes::copy(&r, &mut bytes[8 * i..8 * i + 8]);
 }

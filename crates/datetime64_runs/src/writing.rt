@@ -60,8 +60,7 @@ fn write_records(t: Datetime64Type, instants: &[i64], bytes: &mut [u8])
     let mut i: usize = 0;
     while i < instants.len() {
         let n = datetime64_number::number_written(unit, conversion, instants[i]);
-        let r = records::record_of(order, n);
-        bytes::copy(&r, &mut bytes[8 * i..8 * i + 8]);
+        records::put_number(order, bytes, i, n);
         i += 1;
     }
 }

@@ -1,56 +1,43 @@
+-- `datetime64_runs::reading::first_refused_record` meets its contract: `Checking` of crate `runs`.
+use mathlib.Core.Path.{_≡_, refl, sym, ap, _∙_}
+use mathlib.Core.List.{List, [], _∷_}
+use mathlib.Core.Option.{Option, none, some}
+use Prim.Native.Nat.{ℕ, _-_, _<_}
+use native.Mathlib.Omega.{arith}
+use lib.IntN.{ℤ}
+use lib.ListN.{length, getD}
+use mir.Syntax.{w64}
+use mir.ValLaws.{toZ-ofZ}
+use Rattle.refusal.specs.declared.Refusal.{Refusal}
+use Rattle.axis_types.specs.Reading.{refusalOf}
+use Rattle.runs.proofs.Passes.{Checking, checking-starts, checking-on, checking-stops, checking-ends}
+use Rattle.datetime64_number.specs.Numbers.{readNumber}
+use Rattle.datetime64_number.specs.Conversions.{refusalIn}
+use Rattle.datetime64_number.specs.declared.NumberCheck.{NumberCheck}
+use Rattle.datetime64_runs.specs.Records.{numberIn, recordsIn, recordCount}
+use Rattle.datetime64_runs.specs.Runs.{readRecord}
+use Rattle.datetime64_runs.proofs.Cuts.{record-count, record-at, record-ends}
+use borrow.Author.Needs.{needs}
 use Rattle.datetime64_runs.proofs.reading.first_refused_record.Statement.{statement}
 use Rattle.datetime64_runs.proofs.reading.first_refused_record.Tie as tie
 
 abbrev Inv-loop : tie.InvT-loop
-Inv-loop bytes order unit conversion count i₀ i = ?
+Inv-loop bytes order unit conversion count i₀ i = Checking (λ (r : List ℕ). refusalOf (readNumber unit (numberIn order r))) (recordsIn bytes) i
 
 abbrev μ-loop : tie.MeasureT-loop
-μ-loop bytes order unit conversion count i₀ i = ?
-
-reading-of-requires : tie.Need-reading-of-requires Inv-loop μ-loop
-reading-of-requires c κs = ?
+μ-loop bytes order unit conversion count i₀ i = count - i
 
 loop-holds : tie.Need-loop-holds Inv-loop μ-loop
-loop-holds c = ?
+loop-holds c = checking-starts
 
-mul-number-in : tie.Need-mul-number-in Inv-loop μ-loop
-mul-number-in c = ?
-
-mul-number-in-2 : tie.Need-mul-number-in-2 Inv-loop μ-loop
-mul-number-in-2 c = ?
-
-add-number-in : tie.Need-add-number-in Inv-loop μ-loop
-add-number-in c = ?
-
-sub-number-in : tie.Need-sub-number-in Inv-loop μ-loop
-sub-number-in c = ?
-
-part-number-in-start : tie.Need-part-number-in-start Inv-loop μ-loop
-part-number-in-start c = ?
-
-part-number-in-end : tie.Need-part-number-in-end Inv-loop μ-loop
-part-number-in-end c = ?
-
-number-in-requires : tie.Need-number-in-requires Inv-loop μ-loop
-number-in-requires c κs = ?
+number-at-requires : tie.Need-number-at-requires Inv-loop μ-loop
+number-at-requires c κs = ?
 
 check-number-requires : tie.Need-check-number-requires Inv-loop μ-loop
 check-number-requires c κs = ?
 
-enum-known-refusal : tie.Need-enum-known-refusal Inv-loop μ-loop
-enum-known-refusal c = ?
-
 returns : tie.Need-returns Inv-loop μ-loop
 returns c = ?
-
-enum-told : tie.Need-enum-told Inv-loop μ-loop
-enum-told c = ?
-
-add-i : tie.Need-add-i Inv-loop μ-loop
-add-i c = ?
-
-loop-less : tie.Need-loop-less Inv-loop μ-loop
-loop-less c = ?
 
 loop-again : tie.Need-loop-again Inv-loop μ-loop
 loop-again c = ?
@@ -64,20 +51,14 @@ first-refused-record-spec =
     (tie.spec
     Inv-loop
     μ-loop
-    reading-of-requires
+    (λ c κs. search needs)
     loop-holds
-    mul-number-in
-    mul-number-in-2
-    add-number-in
-    sub-number-in
-    part-number-in-start
-    part-number-in-end
-    number-in-requires
+    number-at-requires
     check-number-requires
-    enum-known-refusal
+    (λ c. search needs)
     returns
-    enum-told
-    add-i
-    loop-less
+    (λ c. search needs)
+    (λ c. search needs)
+    (λ c. search needs)
     loop-again
     returns-2)

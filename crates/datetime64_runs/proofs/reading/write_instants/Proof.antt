@@ -13,32 +13,14 @@ reading-of-requires c κs = ?
 loop-holds : tie.Need-loop-holds Inv-loop μ-loop
 loop-holds c = ?
 
-mul-number-in : tie.Need-mul-number-in Inv-loop μ-loop
-mul-number-in c = ?
-
-mul-number-in-2 : tie.Need-mul-number-in-2 Inv-loop μ-loop
-mul-number-in-2 c = ?
-
-add-number-in : tie.Need-add-number-in Inv-loop μ-loop
-add-number-in c = ?
-
-sub-number-in : tie.Need-sub-number-in Inv-loop μ-loop
-sub-number-in c = ?
-
-part-number-in-start : tie.Need-part-number-in-start Inv-loop μ-loop
-part-number-in-start c = ?
-
-part-number-in-end : tie.Need-part-number-in-end Inv-loop μ-loop
-part-number-in-end c = ?
-
-number-in-requires : tie.Need-number-in-requires Inv-loop μ-loop
-number-in-requires c κs = ?
+number-at-requires : tie.Need-number-at-requires Inv-loop μ-loop
+number-at-requires c κs = ?
 
 instant-read-requires : tie.Need-instant-read-requires Inv-loop μ-loop
 instant-read-requires c κs = ?
 
-mul-t12 : tie.Need-mul-t12 Inv-loop μ-loop
-mul-t12 c = ?
+mul-t13 : tie.Need-mul-t13 Inv-loop μ-loop
+mul-t13 c = ?
 
 slice-set-from-destination : tie.Need-slice-set-from-destination Inv-loop μ-loop
 slice-set-from-destination c = ?
@@ -66,15 +48,9 @@ write-instants-spec =
     μ-loop
     reading-of-requires
     loop-holds
-    mul-number-in
-    mul-number-in-2
-    add-number-in
-    sub-number-in
-    part-number-in-start
-    part-number-in-end
-    number-in-requires
+    number-at-requires
     instant-read-requires
-    mul-t12
+    mul-t13
     slice-set-from-destination
     add-i
     loop-less

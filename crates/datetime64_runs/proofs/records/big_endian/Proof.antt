@@ -1,132 +1,39 @@
+-- `datetime64_runs::records::big_endian` meets its contract.
+use mathlib.Core.Path.{_≡_, sym, ap, _∙_}
+use mathlib.Core.List.{List, [], _∷_, reverse}
+use Prim.Native.Nat.{ℕ}
 use borrow.Author.Needs.{needs}
+use Rattle.datetime64_runs.specs.Records.{littleEndian}
+use Rattle.datetime64_runs.proofs.Bytes.{eight}
 use Rattle.datetime64_runs.proofs.records.big_endian.Statement.{statement}
 use Rattle.datetime64_runs.proofs.records.big_endian.Tie as tie
 
-shared-slice-read-wide : tie.Need-shared-slice-read-wide
-shared-slice-read-wide c = search needs
-
-wide-requires : tie.Need-wide-requires
-wide-requires c κs = search needs
-
-shared-slice-read-wide-2 : tie.Need-shared-slice-read-wide-2
-shared-slice-read-wide-2 c = search needs
-
-wide-requires-2 : tie.Need-wide-requires-2
-wide-requires-2 c κs = search needs
-
-mul-result : tie.Need-mul-result
-mul-result c = ?
-
-add-result : tie.Need-add-result
-add-result c = ?
-
-shared-slice-read-wide-3 : tie.Need-shared-slice-read-wide-3
-shared-slice-read-wide-3 c = search needs
-
-wide-requires-3 : tie.Need-wide-requires-3
-wide-requires-3 c κs = search needs
-
-mul-result-2 : tie.Need-mul-result-2
-mul-result-2 c = ?
-
-shared-slice-read-wide-4 : tie.Need-shared-slice-read-wide-4
-shared-slice-read-wide-4 c = search needs
-
-wide-requires-4 : tie.Need-wide-requires-4
-wide-requires-4 c κs = search needs
-
-mul-result-3 : tie.Need-mul-result-3
-mul-result-3 c = ?
-
-add-result-2 : tie.Need-add-result-2
-add-result-2 c = ?
-
-add-result-3 : tie.Need-add-result-3
-add-result-3 c = ?
-
-shared-slice-read-wide-5 : tie.Need-shared-slice-read-wide-5
-shared-slice-read-wide-5 c = search needs
-
-wide-requires-5 : tie.Need-wide-requires-5
-wide-requires-5 c κs = search needs
-
-mul-result-4 : tie.Need-mul-result-4
-mul-result-4 c = ?
-
-shared-slice-read-wide-6 : tie.Need-shared-slice-read-wide-6
-shared-slice-read-wide-6 c = search needs
-
-wide-requires-6 : tie.Need-wide-requires-6
-wide-requires-6 c κs = search needs
-
-mul-result-5 : tie.Need-mul-result-5
-mul-result-5 c = ?
-
-add-result-4 : tie.Need-add-result-4
-add-result-4 c = ?
-
-shared-slice-read-wide-7 : tie.Need-shared-slice-read-wide-7
-shared-slice-read-wide-7 c = search needs
-
-wide-requires-7 : tie.Need-wide-requires-7
-wide-requires-7 c κs = search needs
-
-mul-result-6 : tie.Need-mul-result-6
-mul-result-6 c = ?
-
-shared-slice-read-wide-8 : tie.Need-shared-slice-read-wide-8
-shared-slice-read-wide-8 c = search needs
-
-wide-requires-8 : tie.Need-wide-requires-8
-wide-requires-8 c κs = search needs
-
-mul-result-7 : tie.Need-mul-result-7
-mul-result-7 c = ?
-
-add-result-5 : tie.Need-add-result-5
-add-result-5 c = ?
-
-add-result-6 : tie.Need-add-result-6
-add-result-6 c = ?
-
-add-result-7 : tie.Need-add-result-7
-add-result-7 c = ?
-
 returns : tie.Need-returns
-returns c = ?
+returns c =
+    let s = c .before .before .before .before .before .before .before .before .before .before in
+    let e7 = c .before .byte-at8 .ensures .0 in
+    let e6 = c .before .before .byte-at7 .ensures .0 in
+    let e5 = c .before .before .before .byte-at6 .ensures .0 in
+    let e4 = c .before .before .before .before .byte-at5 .ensures .0 in
+    let e3 = c .before .before .before .before .before .byte-at4 .ensures .0 in
+    let e2 = c .before .before .before .before .before .before .byte-at3 .ensures .0 in
+    let e1 = c .before .before .before .before .before .before .before .byte-at2 .ensures .0 in
+    let e0 = c .before .before .before .before .before .before .before .before .byte-at .ensures .0 in
+    c .of-bytes .ensures
+    ∙ ((λ i. littleEndian (e7 i ∷ e6 i ∷ e5 i ∷ e4 i ∷ e3 i ∷ e2 i ∷ e1 i ∷ e0 i ∷ []))
+    ∙ ap (λ (t : List ℕ). littleEndian (reverse t)) (sym (eight (s .args .r .now) (s .pre))))
 
 pub big-endian-spec : {M : Type 1} → statement M
 big-endian-spec =
     tie.close
     (tie.spec
-    shared-slice-read-wide
-    wide-requires
-    shared-slice-read-wide-2
-    wide-requires-2
-    mul-result
-    add-result
-    shared-slice-read-wide-3
-    wide-requires-3
-    mul-result-2
-    shared-slice-read-wide-4
-    wide-requires-4
-    mul-result-3
-    add-result-2
-    add-result-3
-    shared-slice-read-wide-5
-    wide-requires-5
-    mul-result-4
-    shared-slice-read-wide-6
-    wide-requires-6
-    mul-result-5
-    add-result-4
-    shared-slice-read-wide-7
-    wide-requires-7
-    mul-result-6
-    shared-slice-read-wide-8
-    wide-requires-8
-    mul-result-7
-    add-result-5
-    add-result-6
-    add-result-7
+    (λ c κs. search needs)
+    (λ c κs. search needs)
+    (λ c κs. search needs)
+    (λ c κs. search needs)
+    (λ c κs. search needs)
+    (λ c κs. search needs)
+    (λ c κs. search needs)
+    (λ c κs. search needs)
+    (λ c κs. search needs)
     returns)

@@ -23,32 +23,8 @@ shared-slice-copy-out-number-written c = ?
 number-written-requires : tie.Need-number-written-requires Inv-loop μ-loop
 number-written-requires c κs = ?
 
-record-of-requires : tie.Need-record-of-requires Inv-loop μ-loop
-record-of-requires c κs = ?
-
-slice-aggregate-copy : tie.Need-slice-aggregate-copy Inv-loop μ-loop
-slice-aggregate-copy c = ?
-
-mul-copy : tie.Need-mul-copy Inv-loop μ-loop
-mul-copy c = ?
-
-mul-copy-2 : tie.Need-mul-copy-2 Inv-loop μ-loop
-mul-copy-2 c = ?
-
-add-copy : tie.Need-add-copy Inv-loop μ-loop
-add-copy c = ?
-
-sub-copy : tie.Need-sub-copy Inv-loop μ-loop
-sub-copy c = ?
-
-part-copy-start : tie.Need-part-copy-start Inv-loop μ-loop
-part-copy-start c = ?
-
-part-copy-end : tie.Need-part-copy-end Inv-loop μ-loop
-part-copy-end c = ?
-
-copy-requires : tie.Need-copy-requires Inv-loop μ-loop
-copy-requires c κs = ?
+put-number-requires : tie.Need-put-number-requires Inv-loop μ-loop
+put-number-requires c κs = ?
 
 add-i : tie.Need-add-i Inv-loop μ-loop
 add-i c = ?
@@ -76,15 +52,7 @@ write-records-spec =
     mul-number-written
     shared-slice-copy-out-number-written
     number-written-requires
-    record-of-requires
-    slice-aggregate-copy
-    mul-copy
-    mul-copy-2
-    add-copy
-    sub-copy
-    part-copy-start
-    part-copy-end
-    copy-requires
+    put-number-requires
     add-i
     loop-less
     loop-again
