@@ -5,3 +5,5 @@ pub mod Exchange
 pub mod Ratios
 pub mod NearSteps
 pub mod Units
+pub mod ByRow
+pub mod Theorems

@@ -99,6 +99,14 @@ few-quotients k h = omega (arith, div-mul-le-self greatestNumber k, mul-le-mul-l
 quotient-within : (k u i : ℕ) → 1000 ≤ k → Place 1 (greatestNumber / k) (greatestNumber / k) u i → Within yearsBelow yearsAbove u
 quotient-within k u i h p = let f = few-quotients k h in record { low = omega (arith, p .is, p .inside, f); high = omega (arith, p .is, p .inside, f) }
 
+-- a 64-bit number that holds a time has its quotient in the years
+pub quotient-inside : (k : ℕ) → 0 < k → 1000 ≤ k → (n m : ℤ) → SFits w64 n → 0 < biased n → inPeriods n k ≡ OffsetAnswer.Is m → inRange ProlepticGregorian m ≡ true
+quotient-inside k h g n m f b e =
+    let p = quotient-place greatestNumber greatestNumber k h (omega arith) n m f (number-within n f b) e in
+    let x = quotient-at greatestNumber greatestNumber k h (omega arith) n f (p .0) (p .1) in
+    let q : m ≡ unbiased (x .biased-quotient) = (let w = x .is in cc) in
+    ap (inRange ProlepticGregorian) q ∙ in-years (x .biased-quotient) (quotient-within k (x .biased-quotient) (p .0) g (x .place))
+
 multiple-read : (k : ℕ) (r : Ratio) → 0 < k → ReadsByRatio (UnitRow.Multiple k) r → (n : ℤ) → SFits w64 n → (i : ℕ) → Place (r .from) (r .below) (r .above) (biased n) i → ReadAt (UnitRow.Multiple k) r n i
 unfolding readByRow
 multiple-read k r h q n f i p =
