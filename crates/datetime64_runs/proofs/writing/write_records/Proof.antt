@@ -1,45 +1,57 @@
+-- `datetime64_runs::writing::write_records` meets its contract: proofs/Putting.antt.
+use mathlib.Core.Path.{_≡_, sym, ap, _∙_}
+use Prim.Native.Nat.{_-_}
+use lib.IntN.{ℤ, pos}
+use lib.ListN.{length, getD}
+use mir.Syntax.{w64}
+use mir.Val.{toZ, ofZ}
+use mir.ValLaws.{toZ-ofZ}
+use Rattle.axis_types.specs.Reading.{isNone, offsetOf, offsetRefusal}
+use Rattle.runs.proofs.Passes.{read-at}
+use Rattle.datetime64_number.specs.Numbers.{writeNumber}
+use Rattle.datetime64_runs.specs.Runs.{instantRefusal}
+use Rattle.datetime64_runs.proofs.Putting.{Putting, putting-starts, record-fits, putting-on, putting-ends}
+use borrow.Author.Needs.{needs}
 use Rattle.datetime64_runs.proofs.writing.write_records.Statement.{statement}
 use Rattle.datetime64_runs.proofs.writing.write_records.Tie as tie
 
 abbrev Inv-loop : tie.InvT-loop
-Inv-loop instants bytes₀ order unit conversion i₀ bytes i = ?
+Inv-loop instants bytes₀ order unit conversion i₀ bytes i = Putting (record { order = order; unit = unit }) instants bytes₀ bytes i
 
 abbrev μ-loop : tie.MeasureT-loop
-μ-loop instants bytes₀ order unit conversion i₀ bytes i = ?
-
-writing-of-requires : tie.Need-writing-of-requires Inv-loop μ-loop
-writing-of-requires c κs = ?
+μ-loop instants bytes₀ order unit conversion i₀ bytes i = length instants - i
 
 loop-holds : tie.Need-loop-holds Inv-loop μ-loop
-loop-holds c = ?
-
-mul-number-written : tie.Need-mul-number-written Inv-loop μ-loop
-mul-number-written c = ?
-
-shared-slice-copy-out-number-written :
-    tie.Need-shared-slice-copy-out-number-written Inv-loop μ-loop
-shared-slice-copy-out-number-written c = ?
+loop-holds c = let s = c .before .before in putting-starts (s .pre .0) (s .pre .1)
 
 number-written-requires : tie.Need-number-written-requires Inv-loop μ-loop
-number-written-requires c κs = ?
+number-written-requires c κs =
+    let b = c .before in
+    let l = b .before in
+    let a = l .before .before .before .args in
+    let x = getD (a .instants .now) (l .loop .i) (pos 0) in
+    (l .before .writing-of .ensures,
+    ap (λ (t : ℤ). isNone (offsetRefusal (writeNumber (a .t .unit) t))) (toZ-ofZ w64 x (record { sfits = c .number-written-arg .given })) ∙ read-at (instantRefusal (a .t)) (pos 0) (a .instants .now) (l .loop .i) (l .loop .inv .all-written) (b .loop-test .taken))
 
 put-number-requires : tie.Need-put-number-requires Inv-loop μ-loop
-put-number-requires c κs = ?
-
-add-i : tie.Need-add-i Inv-loop μ-loop
-add-i c = ?
-
-loop-less : tie.Need-loop-less Inv-loop μ-loop
-loop-less c = ?
+put-number-requires c κs = let b = c .before .before .before in record-fits (b .before .loop .inv) (b .loop-test .taken)
 
 loop-again : tie.Need-loop-again Inv-loop μ-loop
-loop-again c = ?
-
-same-length : tie.Need-same-length Inv-loop μ-loop
-same-length c = ?
+loop-again c =
+    let p = c .before .before in
+    let n = p .before .before in
+    let x = n .before in
+    let b = x .before in
+    let l = b .before in
+    let a = l .before .before .before .args in
+    putting-on (l .loop .inv) (b .loop-test .taken) _ (toZ w64 (ofZ w64 (n .number-written .result)))
+    (toZ-ofZ w64 (n .number-written .result) (record { sfits = n .number-written .ok })
+    ∙ (n .number-written .ensures ∙ ap (λ (t : ℤ). offsetOf (writeNumber (a .t .unit) t)) (toZ-ofZ w64 (getD (a .instants .now) (l .loop .i) (pos 0)) (record { sfits = x .number-written-arg .given }))))
+    (p .put-number .ensures)
+    (p .put-number .kept .0)
 
 returns : tie.Need-returns Inv-loop μ-loop
-returns c = ?
+returns c = putting-ends (c .before .loop .inv) (c .loop-test .left)
 
 pub write-records-spec : {M : Type 1} → statement M
 write-records-spec =
@@ -47,14 +59,14 @@ write-records-spec =
     (tie.spec
     Inv-loop
     μ-loop
-    writing-of-requires
+    (λ c κs. search needs)
     loop-holds
-    mul-number-written
-    shared-slice-copy-out-number-written
+    (λ c. search needs)
+    (λ c. search needs)
     number-written-requires
     put-number-requires
-    add-i
-    loop-less
+    (λ c. search needs)
+    (λ c. search needs)
     loop-again
-    same-length
+    (λ c. search needs)
     returns)
