@@ -1,3 +1,4 @@
 pub mod Bytes
 pub mod Cuts
 pub mod Putting
+pub mod Checks

@@ -1,40 +1,37 @@
+-- `datetime64_runs::writing::write_datetime64` meets its contract.
+use mathlib.Core.Path.{sym, ap, _∙_}
+use Rattle.datetime64_type.specs.declared.identifier.TypeAnswer.{TypeAnswer}
+use Rattle.datetime64_runs.specs.Runs.{writeAnswer, writeRoom}
 use borrow.Author.Needs.{needs}
 use Rattle.datetime64_runs.proofs.writing.write_datetime64.Statement.{statement}
 use Rattle.datetime64_runs.proofs.writing.write_datetime64.Tie as tie
 
-type-of-requires : tie.Need-type-of-requires
-type-of-requires c κs = search needs
-
-enum-told : tie.Need-enum-told
-enum-told c = search needs
-
-answer-requires : tie.Need-answer-requires
-answer-requires c κs = search needs
-
 returns : tie.Need-returns
-returns c = ?
-
-enum-known-t : tie.Need-enum-known-t
-enum-known-t c = search needs
-
-write-typed-requires : tie.Need-write-typed-requires
-write-typed-requires c κs = search needs
-
-same-length : tie.Need-same-length
-same-length c = search needs
+returns c =
+    let m = c .before in
+    let k = m .before .before in
+    let a = k .before .before .before .args in
+    let e = sym (m .enum-told .given .1) ∙ k .type-of .ensures in
+    (c .answer .ensures ∙ ap (λ (x : TypeAnswer). writeAnswer x (a .instants .now) (a .bytes .now)) e, ap (λ (x : TypeAnswer). writeRoom x (a .instants .now) (a .bytes .now)) e)
 
 returns-2 : tie.Need-returns-2
-returns-2 c = ?
+returns-2 c =
+    let w = c .before .before .write-typed in
+    let v = c .before .before .before .before .before in
+    let k = v .before .before in
+    let a = k .before .before .before .args in
+    let e = sym (v .t .given .1) ∙ k .type-of .ensures in
+    (w .ensures .0 ∙ ap (λ (x : TypeAnswer). writeAnswer x (a .instants .now) (a .bytes .now)) e, w .ensures .1 ∙ ap (λ (x : TypeAnswer). writeRoom x (a .instants .now) (a .bytes .now)) e)
 
 pub write-datetime64-spec : {M : Type 1} → statement M
 write-datetime64-spec =
     tie.close
     (tie.spec
-    type-of-requires
-    enum-told
-    answer-requires
+    (λ c κs. search needs)
+    (λ c. search needs)
+    (λ c κs. search needs)
     returns
-    enum-known-t
-    write-typed-requires
-    same-length
+    (λ c. search needs)
+    (λ c κs. search needs)
+    (λ c. search needs)
     returns-2)

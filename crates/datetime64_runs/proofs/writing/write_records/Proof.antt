@@ -29,9 +29,10 @@ number-written-requires c κs =
     let b = c .before in
     let l = b .before in
     let a = l .before .before .before .args in
-    let x = getD (a .instants .now) (l .loop .i) (pos 0) in
-    (l .before .writing-of .ensures,
-    ap (λ (t : ℤ). isNone (offsetRefusal (writeNumber (a .t .unit) t))) (toZ-ofZ w64 x (record { sfits = c .number-written-arg .given })) ∙ read-at (instantRefusal (a .t)) (pos 0) (a .instants .now) (l .loop .i) (l .loop .inv .all-written) (b .loop-test .taken))
+    let x = getD (a .instants .now) (l .loop .i) (pos 0) in (
+      l .before .writing-of .ensures,
+      ap (λ (t : ℤ). isNone (offsetRefusal (writeNumber (a .t .unit) t))) (toZ-ofZ w64 x (record { sfits = c .number-written-arg .given })) ∙ read-at (instantRefusal (a .t)) (pos 0) (a .instants .now) (l .loop .i) (l .loop .inv .all-written) (b .loop-test .taken),
+    )
 
 put-number-requires : tie.Need-put-number-requires Inv-loop μ-loop
 put-number-requires c κs = let b = c .before .before .before in record-fits (b .before .loop .inv) (b .loop-test .taken)
@@ -48,7 +49,7 @@ loop-again c =
     (toZ-ofZ w64 (n .number-written .result) (record { sfits = n .number-written .ok })
     ∙ (n .number-written .ensures ∙ ap (λ (t : ℤ). offsetOf (writeNumber (a .t .unit) t)) (toZ-ofZ w64 (getD (a .instants .now) (l .loop .i) (pos 0)) (record { sfits = x .number-written-arg .given }))))
     (p .put-number .ensures)
-    (p .put-number .kept .0)
+    (p .put-number .kept .1 .0)
 
 returns : tie.Need-returns Inv-loop μ-loop
 returns c = putting-ends (c .before .loop .inv) (c .loop-test .left)
