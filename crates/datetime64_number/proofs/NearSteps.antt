@@ -1,7 +1,7 @@
 -- Steps by months and years from 1970-01-01 that stay in the years.
 use mathlib.Core.Path.{_≡_, refl, sym, ap, _∙_}
 use mathlib.Core.Bool.{true}
-use Prim.Native.Nat.{ℕ, _+_, _*_, _≤_, _<_}
+use Prim.Native.Nat.{ℕ, _+_, _*_, _≤_}
 use native.Mathlib.Nat.{add-mul, mul-le-mul-right}
 use native.Mathlib.Omega.{arith}
 use lib.IntN.{ℤ, pos}
@@ -9,17 +9,16 @@ use mir.Syntax.{w64}
 use mir.Val.{SFits}
 use Rattle.signed.specs.Bias.{biased, unbiased}
 use Rattle.signed.proofs.Differences.{unbiased-biased}
-use Rattle.calendar.specs.Calendar.{dateBy, dateOf, times, epoch, inYears}
+use Rattle.calendar.specs.Calendar.{dateBy, dateOf, times, inYears}
 use Rattle.calendar.specs.declared.Calendar.the-variants.{ProlepticGregorian}
 use Rattle.calendar.proofs.Theorems.{dates-exist}
 use Rattle.instant.specs.Instant.{dayOf, timeOf}
-use Rattle.step.specs.Closed.{monthsOf, HasNumber, YearOf}
+use Rattle.step.specs.Closed.{monthsOf, YearOf}
 use Rattle.step.specs.Steps.{dateAfter}
 use Rattle.step.specs.declared.Part.{Part}
 use Rattle.step.proofs.Answering.{year-between}
 use Rattle.step.proofs.Theorems.{steps-exist}
 use Rattle.axis_types.specs.Reading.{isRead}
-use Rattle.axis_types.specs.declared.Reading.{Reading}
 use Rattle.calendar_axis.specs.Steps.{dateAt, readSteps}
 use Rattle.calendar_axis.proofs.Demands.{day-read}
 

@@ -1,5 +1,5 @@
 -- Products of signed numbers that have their bias of 2^63: v is k times u. Bounds on the product, divided by k, are bounds on the factor.
-use mathlib.Core.Path.{_≡_, refl, sym, ap, _∙_}
+use mathlib.Core.Path.{_≡_, sym, ap, _∙_}
 use Prim.Native.Nat.{ℕ, _+_, _-_, _*_, _/_, _≤_, _<_}
 use native.Mathlib.Nat.{add-mul, div-mul-le-self, le-div-iff-mul-le, eq-of-mul-eq-mul-right, mul-le-mul-right}
 use native.Mathlib.Omega.{arith}

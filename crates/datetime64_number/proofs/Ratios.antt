@@ -1,14 +1,14 @@
 -- The numbers of a unit with a fixed ratio: what is one of the multiples is read or written as what it is exchanged for, and nothing else is.
 use mathlib.Core.Path.{_≡_, refl, sym, ap, _∙_, subst}
 use mathlib.Core.Bool.{Bool, true, false, cond, false≢true}
-use Prim.Native.Nat.{ℕ, zero, suc, _+_, _-_, _*_, _/_, _≤_, _<_}
+use Prim.Native.Nat.{ℕ, zero, suc, _-_, _*_, _/_, _≤_, _<_}
 use native.Mathlib.Nat.{div-mul-le-self, div-le-self, mul-le-mul-left}
 use native.Mathlib.Omega.{arith}
 use lib.Dec.{eqb}
 use lib.IntN.{ℤ, pos, negsuc, _*ℤ_}
 use mir.Syntax.{w64}
 use mir.Val.{SFits}
-use borrow.Author.Tests.{ne-eqb, eq-eqb, lt-ltb, ltb-true, eqb-true}
+use borrow.Author.Tests.{ne-eqb, eq-eqb, lt-ltb, ltb-true}
 use Rattle.signed.specs.Bias.{biased, unbiased}
 use Rattle.signed.proofs.Tests.{to-false}
 use Rattle.signed.proofs.Differences.{unbiased-biased, lift-sub, by-sign}
@@ -30,7 +30,7 @@ use Rattle.datetime64_number.specs.Numbers.{isNotATime, holdsTime, count
 use Rattle.datetime64_number.specs.Conversions.{yearsBelow, yearsAbove, greatestNumber, ReadsByRatio, WritesByRatio}
 use Rattle.datetime64_number.proofs.Products.{Within, within}
 use Rattle.datetime64_number.proofs.Years.{in-years, within-years}
-use Rattle.datetime64_number.proofs.Rows.{GoodStep, GoodRow}
+use Rattle.datetime64_number.proofs.Rows.{GoodRow}
 use Rattle.datetime64_number.proofs.Exchange.{product-at, product-place, quotient-at, quotient-place}
 
 -- ---- not-a-time is the number whose bias leaves 0

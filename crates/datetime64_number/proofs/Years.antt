@@ -1,5 +1,5 @@
 -- The years -9999 to 9999 of `proleptic_gregorian` as bounds of instants that have their bias of 2^63.
-use mathlib.Core.Path.{_≡_, refl, sym, ap, _∙_}
+use mathlib.Core.Path.{_≡_, refl, sym, _∙_}
 use mathlib.Core.Bool.{true, _&&_}
 use Prim.Native.Nat.{ℕ, _-_}
 use native.Mathlib.Omega.{arith}

@@ -5,12 +5,9 @@ use Prim.Native.Nat.{ℕ, _/_}
 use lib.IntN.{pos}
 use Rattle.refusal.specs.declared.Refusal.{Refusal}
 use Rattle.calendar.specs.declared.Calendar.the-variants.{ProlepticGregorian}
-use Rattle.step.specs.declared.Part.{Part}
 use Rattle.calendar_axis.specs.Start.{StartOf}
 use Rattle.ratio.specs.Multiples.{IsRatio}
 use Rattle.ratio.specs.declared.Ratio.{Ratio}
-use Rattle.datetime64_type.specs.Units.{unitRowOf}
-use Rattle.datetime64_type.specs.declared.UnitCode.{UnitCode}
 use Rattle.datetime64_type.specs.declared.UnitRow.{UnitRow}
 use Rattle.datetime64_number.specs.declared.Conversion.{Conversion}
 use Rattle.datetime64_number.specs.declared.NumberCheck.{NumberCheck}

@@ -1,6 +1,6 @@
 -- The place of a number among the multiples.
 use mathlib.Core.Path.{_≡_, refl, sym, ap, _∙_, subst}
-use Prim.Native.Nat.{ℕ, suc, _+_, _-_, _*_, _/_, _%_, _≤_, _<_}
+use Prim.Native.Nat.{ℕ, _+_, _-_, _*_, _/_, _%_, _≤_, _<_}
 use native.Mathlib.Nat.{add-mul, mul-assoc, mul-le-mul-right, le-mul-of-pos-right}
 use native.Mathlib.Omega.{arith}
 use Rattle.ratio.specs.Multiples.{Place, Steps, reciprocalOf, IsRatio, Good, IsMultiple}

@@ -1,6 +1,5 @@
 -- The reciprocal of h is 2^64 / h, rounded up: the high word of its product with i * h is i.
-use mathlib.Core.Path.{_≡_, refl, sym, ap, _∙_}
-use mathlib.Core.Bool.{cond}
+use mathlib.Core.Path.{_≡_, ap, _∙_}
 use Prim.Native.Nat.{ℕ, _+_, _-_, _*_, _/_, _%_, _≤_, _<_, _^_}
 use native.Mathlib.Nat.{div-add-mod', div-mul-le-self, mod-lt, mul-assoc, mul-add, mul-comm, mul-one, mul-le-mul-left}
 use native.Mathlib.Omega.{arith}

@@ -2,9 +2,8 @@
 // A run divides nothing: the place of a number among the multiples is found by the reciprocal of half the step.
 // A reader may rely on specs/Multiples.antt.
 ghost use mathlib.Core.Path.{_≡_};
-ghost use mathlib.Core.Bool.{true, false, cond};
-ghost use Prim.Native.Nat.{ℕ, _+_, _*_, _/_, _≤_, _<_};
-ghost use lib.Dec.{ltb};
+ghost use mathlib.Core.Bool.{true, false};
+ghost use Prim.Native.Nat.{ℕ, _*_};
 ghost use Rattle.signed.specs.Bias.{biased};
 ghost use Rattle.ratio.specs.Multiples.{Steps, Place, reciprocalOf, IsRatio, Good, IsMultiple};
 

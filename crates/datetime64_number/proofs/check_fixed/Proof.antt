@@ -1,5 +1,5 @@
 -- `datetime64_number::check_fixed` meets its contract: proofs/Units.antt.
-use mathlib.Core.Path.{_≡_, refl, sym, ap, _∙_, subst}
+use mathlib.Core.Path.{_≡_, sym, ap, _∙_, subst}
 use mathlib.Core.Bool.{Bool, cond}
 use Prim.Native.Nat.{_<_}
 use native.Mathlib.Omega.{arith}

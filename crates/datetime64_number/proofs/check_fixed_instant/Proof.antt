@@ -1,5 +1,5 @@
 -- `datetime64_number::check_fixed_instant` meets its contract: proofs/Units.antt.
-use mathlib.Core.Path.{_≡_, sym, ap, _∙_, subst}
+use mathlib.Core.Path.{sym, ap, _∙_, subst}
 use mir.Syntax.{w64}
 use mir.ValLaws.{toZ-ofZ}
 use borrow.Author.Needs.{needs}

@@ -1,5 +1,5 @@
 -- `datetime64_number::check_number` meets its contract.
-use mathlib.Core.Path.{_≡_, sym, ap, _∙_, subst}
+use mathlib.Core.Path.{ap, _∙_, subst}
 use lib.IntN.{ℤ}
 use mir.Syntax.{w64}
 use mir.ValLaws.{toZ-ofZ}
@@ -8,7 +8,6 @@ use Rattle.axis_types.specs.Reading.{refusalOf}
 use Rattle.datetime64_type.specs.Units.{unitRowOf}
 use Rattle.datetime64_number.specs.Numbers.{readNumber}
 use Rattle.datetime64_number.specs.Conversions.{Reads}
-use Rattle.datetime64_number.specs.declared.Conversion.{Conversion}
 use Rattle.datetime64_number.proofs.check_number.Statement.{statement}
 use Rattle.datetime64_number.proofs.check_number.Tie as tie
 

@@ -1,6 +1,5 @@
 -- `datetime64_number::check_steps` meets its contract: proofs/Units.antt.
-use mathlib.Core.Path.{_≡_, refl, sym, ap, _∙_, subst}
-use mathlib.Core.Option.{Option, none}
+use mathlib.Core.Path.{_≡_, sym, ap, _∙_}
 use Prim.Native.Nat.{_<_}
 use native.Mathlib.Omega.{arith}
 use lib.IntN.{ℤ, pos}
@@ -8,10 +7,8 @@ use mir.Syntax.{w64}
 use mir.ValLaws.{toZ-ofZ}
 use borrow.Author.Needs.{needs}
 use Rattle.signed.specs.Bias.{biased}
-use Rattle.refusal.specs.declared.Refusal.{Refusal}
 use Rattle.calendar.specs.declared.Calendar.the-variants.{ProlepticGregorian}
 use Rattle.axis_types.specs.Reading.{refusalOf, isRead}
-use Rattle.axis_types.specs.declared.Reading.{Reading}
 use Rattle.axis_types.proofs.Answers.{was-read}
 use Rattle.calendar_axis.specs.Steps.{readFrom, readSteps}
 use Rattle.calendar_axis.proofs.Demands.{start-time, from-start}

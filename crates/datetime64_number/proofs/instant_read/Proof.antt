@@ -1,5 +1,5 @@
 -- `datetime64_number::instant_read` meets its contract: proofs/Units.antt.
-use mathlib.Core.Path.{_≡_, refl, sym, ap, _∙_, subst}
+use mathlib.Core.Path.{_≡_, sym, ap, _∙_, subst}
 use Prim.Native.Nat.{ℕ}
 use lib.IntN.{pos}
 use mir.Syntax.{w64}

@@ -1,5 +1,5 @@
 -- `datetime64_number::is_near` meets its contract: proofs/NearSteps.antt.
-use mathlib.Core.Path.{_≡_, sym, ap, _∙_}
+use mathlib.Core.Path.{ap, _∙_}
 use mathlib.Core.Bool.{false≢true}
 use Prim.Native.Nat.{_+_}
 use native.Mathlib.Omega.{arith}

@@ -1,7 +1,6 @@
 -- `datetime64_number::number_written` meets its contract: proofs/Units.antt.
 use mathlib.Core.Path.{_≡_, sym, ap, _∙_, subst}
 use Prim.Native.Nat.{ℕ}
-use lib.IntN.{ℤ}
 use mir.Syntax.{w64}
 use mir.ValLaws.{toZ-ofZ}
 use borrow.Author.Needs.{needs}
@@ -11,7 +10,6 @@ use Rattle.ratio.specs.Multiples.{Place, IsMultiple}
 use Rattle.datetime64_type.specs.Units.{unitRowOf}
 use Rattle.datetime64_number.specs.Numbers.{writeNumber}
 use Rattle.datetime64_number.specs.Conversions.{Writes, WritesByRatio}
-use Rattle.datetime64_number.specs.declared.Conversion.{Conversion}
 use Rattle.datetime64_number.proofs.Units.{writes-good, written-multiple, written-exchanged}
 use Rattle.datetime64_number.proofs.number_written.Statement.{statement}
 use Rattle.datetime64_number.proofs.number_written.Tie as tie

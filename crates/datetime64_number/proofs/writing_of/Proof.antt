@@ -1,5 +1,5 @@
 -- `datetime64_number::writing_of` meets its contract.
-use mathlib.Core.Path.{_≡_, refl, sym, _∙_, subst}
+use mathlib.Core.Path.{_≡_, sym, _∙_, subst}
 use native.Mathlib.Omega.{arith}
 use Rattle.datetime64_type.specs.Units.{unitRowOf}
 use Rattle.datetime64_type.specs.declared.UnitRow.{UnitRow}
