@@ -1,5 +1,6 @@
 // The C boundary: the calls of include/uppinalo.h, thin, each with its complete promise. specs/Demands.antt states the three demands
 // of these promises, and proofs/Demands.antt proves them.
+pub mod datetime64;
 pub mod days;
 pub mod offset_runs;
 pub mod offsets;
