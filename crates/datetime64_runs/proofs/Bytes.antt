@@ -1,13 +1,13 @@
 -- Eight bytes and the number that they are, in either byte order.
 use mathlib.Core.Path.{_≡_, refl, sym, ap, _∙_}
-use mathlib.Core.List.{List, [], _∷_}
-use Prim.Native.Nat.{ℕ, suc, _<_}
+use mathlib.Core.List.{List, [], _∷_, reverse}
+use Prim.Native.Nat.{ℕ, zero, suc, _+_, _*_, _/_, _%_, _<_}
 use native.Mathlib.Omega.{arith}
 use lib.IntN.{ℤ}
 use lib.ListN.{length, drop, getD, drop-of-length-le}
 use lib.Seq.{drop-cons}
 use Rattle.datetime64_type.specs.declared.ByteOrder.{ByteOrder}
-use Rattle.datetime64_runs.specs.Records.{littleBytes, recordOf}
+use Rattle.datetime64_runs.specs.Records.{littleEndian, littleBytes, inOrder, recordOf}
 
 -- a list of eight, element by element
 pub eight : (s : List ℕ) → length s ≡ 8 → s ≡ getD s 0 0 ∷ getD s 1 0 ∷ getD s 2 0 ∷ getD s 3 0 ∷ getD s 4 0 ∷ getD s 5 0 ∷ getD s 6 0 ∷ getD s 7 0 ∷ []
@@ -30,3 +30,42 @@ pub record-length : (order : ByteOrder) (n : ℤ) → length (recordOf order n) 
 unfolding recordOf littleBytes
 record-length ByteOrder.Little n = refl
 record-length ByteOrder.Big n = refl
+
+-- ---- there and back
+pub little-back : (w : ℕ) → w < 18446744073709551616 → littleEndian (littleBytes 8 w) ≡ w
+unfolding littleEndian littleBytes
+little-back w h = omega arith
+
+pub bytes-back : (s : List ℕ) → ((i : ℕ) → getD s i 0 < 256) → littleBytes (length s) (littleEndian s) ≡ s
+unfolding littleEndian littleBytes
+bytes-back [] f = refl
+bytes-back (b ∷ s) f =
+    let w = littleEndian s in
+    let first : (b + 256 * w) % 256 ≡ b = omega (arith, f 0) in
+    let rest : (b + 256 * w) / 256 ≡ w = omega (arith, f 0) in
+    λ i. first i ∷ (ap (littleBytes (length s)) rest ∙ bytes-back s (λ i. f (suc i))) i
+
+-- the bytes of a number are bytes
+bytes-small : (k w i : ℕ) → getD (littleBytes k w) i 0 < 256
+unfolding littleBytes
+bytes-small zero w i = omega arith
+bytes-small (suc k) w zero = omega arith
+bytes-small (suc k) w (suc i) = bytes-small k (w / 256) i
+
+eight-small : (w i : ℕ) → getD (reverse (littleBytes 8 w)) i 0 < 256
+unfolding littleBytes
+eight-small w zero = omega arith
+eight-small w (suc zero) = omega arith
+eight-small w (suc (suc zero)) = omega arith
+eight-small w (suc (suc (suc zero))) = omega arith
+eight-small w (suc (suc (suc (suc zero)))) = omega arith
+eight-small w (suc (suc (suc (suc (suc zero))))) = omega arith
+eight-small w (suc (suc (suc (suc (suc (suc zero)))))) = omega arith
+eight-small w (suc (suc (suc (suc (suc (suc (suc zero))))))) = omega arith
+eight-small w (suc (suc (suc (suc (suc (suc (suc (suc i)))))))) = omega arith
+
+-- so are they in either order
+pub ordered-back : (order : ByteOrder) (w : ℕ) → littleBytes 8 (littleEndian (inOrder order (littleBytes 8 w))) ≡ inOrder order (littleBytes 8 w)
+unfolding littleBytes
+ordered-back ByteOrder.Little w = bytes-back (littleBytes 8 w) (bytes-small 8 w)
+ordered-back ByteOrder.Big w = bytes-back (reverse (littleBytes 8 w)) (eight-small w)

@@ -5,7 +5,7 @@ ghost use lib.ListN.{length, take, drop, getD};
 ghost use mir.Syntax.{w64};
 ghost use mir.Val.{toZ, ofZ};
 ghost use mathlib.Core.List.{[], _∷_, _++_, reverse};
-ghost use Rattle.datetime64_runs.specs.Records.{littleEndian, littleBytes, numberIn, recordOf};
+ghost use Rattle.datetime64_runs.specs.Records.{littleEndian, littleBytes, inOrder, numberIn, recordOf};
 use datetime64_type::ByteOrder;
 
 // The number of eight bytes.
@@ -46,20 +46,37 @@ fn little_endian(r: &[u8]) -> u64
     of_bytes(b0, b1, b2, b3, b4, b5, b6, b7)
 }
 
-// The same of bytes with the most significant first.
-fn big_endian(r: &[u8]) -> u64
-    requires { ⌜ length (now r) ≡ 8 ⌝ }
-    ensures { λ w. ⌜ w ≡ littleEndian (reverse (now (r .entry))) ⌝ }
+// The number whose bytes come the other way round.
+fn swapped(w: u64) -> u64
+    ensures { λ r. ⌜ r ≡ littleEndian (reverse (littleBytes 8 w)) ⌝ }
 {
-    let b7 = byte_at(r, 0);
-    let b6 = byte_at(r, 1);
-    let b5 = byte_at(r, 2);
-    let b4 = byte_at(r, 3);
-    let b3 = byte_at(r, 4);
-    let b2 = byte_at(r, 5);
-    let b1 = byte_at(r, 6);
-    let b0 = byte_at(r, 7);
-    of_bytes(b0, b1, b2, b3, b4, b5, b6, b7)
+    let w1 = w / 256;
+    let w2 = w1 / 256;
+    let w3 = w2 / 256;
+    let w4 = w3 / 256;
+    let w5 = w4 / 256;
+    let w6 = w5 / 256;
+    let w7 = w6 / 256;
+    of_bytes(
+        w7 % 256,
+        w6 % 256,
+        w5 % 256,
+        w4 % 256,
+        w3 % 256,
+        w2 % 256,
+        w1 % 256,
+        w % 256,
+    )
+}
+
+// The number whose bytes are those of w in an order.
+fn in_order(order: ByteOrder, w: u64) -> u64
+    ensures { λ r. ⌜ r ≡ littleEndian (inOrder order (littleBytes 8 w)) ⌝ }
+{
+    match order {
+        ByteOrder::Little => return w,
+        ByteOrder::Big => return swapped(w),
+    }
 }
 
 // The signed number of 64 bits.
@@ -88,10 +105,7 @@ fn number_in(order: ByteOrder, r: &[u8]) -> i64
     requires { ⌜ length (now r) ≡ 8 ⌝ }
     ensures { λ n. ⌜ n ≡ numberIn order (now (r .entry)) ⌝ }
 {
-    match order {
-        ByteOrder::Little => return signed_of(little_endian(r)),
-        ByteOrder::Big => return signed_of(big_endian(r)),
-    }
+    signed_of(in_order(order, little_endian(r)))
 }
 
 // The number of the record at place i.
@@ -125,38 +139,11 @@ fn little_bytes(w: u64) -> [u8; 8]
     ]
 }
 
-// The same with the most significant first.
-fn big_bytes(w: u64) -> [u8; 8]
-    ensures { λ r. ⌜ r ≡ reverse (littleBytes 8 w) ⌝ }
-{
-    let w1 = w / 256;
-    let w2 = w1 / 256;
-    let w3 = w2 / 256;
-    let w4 = w3 / 256;
-    let w5 = w4 / 256;
-    let w6 = w5 / 256;
-    let w7 = w6 / 256;
-    [
-        (w7 % 256) as u8,
-        (w6 % 256) as u8,
-        (w5 % 256) as u8,
-        (w4 % 256) as u8,
-        (w3 % 256) as u8,
-        (w2 % 256) as u8,
-        (w1 % 256) as u8,
-        (w % 256) as u8,
-    ]
-}
-
 // The record of a number.
 fn record_of(order: ByteOrder, n: i64) -> [u8; 8]
     ensures { λ r. ⌜ r ≡ recordOf order n ⌝ }
 {
-    let w = bits_of(n);
-    match order {
-        ByteOrder::Little => return little_bytes(w),
-        ByteOrder::Big => return big_bytes(w),
-    }
+    little_bytes(in_order(order, bits_of(n)))
 }
 
 // Writes the record of a number at place i.

@@ -1,41 +1,31 @@
 -- `datetime64_runs::records::number_in` meets its contract.
 use mathlib.Core.Path.{_≡_, sym, ap, _∙_}
+use mathlib.Core.List.{List}
+use Prim.Native.Nat.{ℕ}
+use native.Mathlib.Omega.{arith}
+use lib.ListN.{length}
 use mir.Syntax.{w64}
 use mir.Val.{toZ}
 use mir.ValLaws.{toZ-ofZ}
 use borrow.Author.Needs.{needs}
-use Rattle.datetime64_type.specs.declared.ByteOrder.{ByteOrder}
-use Rattle.datetime64_runs.specs.Records.{numberIn}
+use Rattle.datetime64_runs.specs.Records.{littleEndian, littleBytes, inOrder, numberIn}
+use Rattle.datetime64_runs.proofs.Bytes.{bytes-back}
 use Rattle.datetime64_runs.proofs.records.number_in.Statement.{statement}
 use Rattle.datetime64_runs.proofs.records.number_in.Tie as tie
 
 returns : tie.Need-returns
 unfolding numberIn
 returns c =
-    let l = c .before in
-    let o = l .before in
-    let s = o .before .before .before in
+    let o = c .before in
+    let l = o .before in
+    let k = l .before in
+    let s = k .before in
+    let r = s .args .r .now in
+    let back : littleBytes 8 (littleEndian r) ≡ r = ap (λ (n : ℕ). littleBytes n (littleEndian r)) (sym (s .pre)) ∙ bytes-back r (λ i. omega (arith, k .shared-slice-known .given i)) in
     toZ-ofZ w64 (c .signed-of .result) (record { sfits = c .signed-of .ok })
-    ∙ (c .signed-of .ensures ∙ (ap (toZ w64) (l .little-endian .ensures) ∙ ap (λ (b : ByteOrder). numberIn b (s .args .r .now)) (sym (o .enum-told .given .1))))
-
-returns-2 : tie.Need-returns-2
-unfolding numberIn
-returns-2 c =
-    let l = c .before in
-    let o = l .before in
-    let s = o .before .before .before in
-    toZ-ofZ w64 (c .signed-of2 .result) (record { sfits = c .signed-of2 .ok })
-    ∙ (c .signed-of2 .ensures ∙ (ap (toZ w64) (l .big-endian .ensures) ∙ ap (λ (b : ByteOrder). numberIn b (s .args .r .now)) (sym (o .enum-told2 .given .1))))
+    ∙ (c .signed-of .ensures
+    ∙ ap (toZ w64) (o .in-order .ensures ∙ (ap (λ (w : ℕ). littleEndian (inOrder (s .args .order) (littleBytes 8 w))) (l .little-endian .ensures) ∙ ap (λ (t : List ℕ). littleEndian (inOrder (s .args .order) t)) back)))
 
 pub number-in-spec : {M : Type 1} → statement M
 number-in-spec =
-    tie.close
-    (tie.spec
-    (λ c. search needs)
-    (λ c κs. search needs)
-    (λ c κs. search needs)
-    returns
-    (λ c. search needs)
-    (λ c κs. search needs)
-    (λ c κs. search needs)
-    returns-2)
+    tie.close (tie.spec (λ c κs. search needs) (λ c κs. search needs) (λ c κs. search needs) returns)
