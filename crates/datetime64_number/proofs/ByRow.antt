@@ -31,7 +31,7 @@ use Rattle.calendar_axis.proofs.Demands as Steps
 use Rattle.datetime64_type.specs.declared.UnitRow.{UnitRow}
 use Rattle.datetime64_number.specs.Numbers.{isNotATime, holdsTime, countRead, readByRow, numberWritten, writeByRow}
 use Rattle.datetime64_number.proofs.Years.{epoch-in}
-use Rattle.datetime64_number.proofs.Rows.{GoodRow}
+use Rattle.datetime64_number.proofs.Rows.{GoodRow, divisor}
 use Rattle.datetime64_number.proofs.Ratios.{has-time, holds-fits, time-biased, quotient-inside}
 
 -- ---- answers
@@ -73,7 +73,7 @@ unfolding readByRow writeByRow
 row-reads (UnitRow.Steps part) g t n i e = Steps.written-reads part ProlepticGregorian (pos 0) t n i e
 row-reads (UnitRow.Multiple k) g t n i e = ap (λ (z : ℤ). readingAt ProlepticGregorian z true) (quotient-of t k n e .is) ∙ sym (settled ProlepticGregorian t true i)
 row-reads (UnitRow.Fraction k) g t n i e =
-    ap (λ (z : ℤ). countRead (inPeriods z k)) (sym (held (t *ℤ pos k) n e .1)) ∙ (ap countRead (in-periods t k (g .0 .positive)) ∙ sym (settled ProlepticGregorian t true i))
+    ap (λ (z : ℤ). countRead (inPeriods z k)) (sym (held (t *ℤ pos k) n e .1)) ∙ (ap countRead (in-periods t k (divisor g)) ∙ sym (settled ProlepticGregorian t true i))
 
 pub row-time : (row : UnitRow) (t n : ℤ) → inRange ProlepticGregorian t ≡ true → writeByRow row t ≡ OffsetAnswer.Is n → Time n
 unfolding writeByRow
@@ -87,7 +87,7 @@ row-time (UnitRow.Fraction k) t n i e =
 pub row-writes : (row : UnitRow) → GoodRow row → (n t : ℤ) (exact : Bool) → Time n → readByRow row n ≡ Reading.At t exact → writeByRow row t ≡ OffsetAnswer.Is n
 unfolding readByRow writeByRow
 row-writes (UnitRow.Steps part) g n t exact h e = Steps.read-writes part ProlepticGregorian (pos 0) n t exact epoch-in e
-row-writes (UnitRow.Multiple k) g n t exact h e = ap (λ (z : ℤ). inPeriods z k) (sym (reading-of ProlepticGregorian (n *ℤ pos k) t true exact e .is)) ∙ in-periods n k (g .positive)
+row-writes (UnitRow.Multiple k) g n t exact h e = ap (λ (z : ℤ). inPeriods z k) (sym (reading-of ProlepticGregorian (n *ℤ pos k) t true exact e .is)) ∙ in-periods n k g
 row-writes (UnitRow.Fraction k) g n t exact h e = go (inPeriods n k) refl e
   where
     go : (a : OffsetAnswer) → inPeriods n k ≡ a → countRead a ≡ Reading.At t exact → numberWritten (t *ℤ pos k) ≡ OffsetAnswer.Is n
@@ -167,7 +167,7 @@ row-unread (UnitRow.Multiple k) g n h r = (go (inRange ProlepticGregorian (n *�
 row-unread (UnitRow.Fraction k) g n h r = (go (inPeriods n k) refl, λ u. ap countRead (inexact n k (λ m q. u .1 m (quotient-of n k m q .is))) ∙ ap Reading.Refused (sym (u .0)))
   where
     go : (a : OffsetAnswer) → inPeriods n k ≡ a → countRead a ≡ Reading.Refused r → Unread (UnitRow.Fraction k) n r
-    go (OffsetAnswer.Is m) q e = absurd (not-refused r m true (settled ProlepticGregorian m true (quotient-inside k (g .0 .positive) (g .1) n m (h .0) (time-biased n (h .0) (h .1)) q) ∙ e))
+    go (OffsetAnswer.Is m) q e = absurd (not-refused r m true (settled ProlepticGregorian m true (quotient-inside k (divisor g) g n m (h .0) (time-biased n (h .0) (h .1)) q) ∙ e))
     go (OffsetAnswer.Refused s) q e =
         let l : r ≡ Inexact = (let w = only-left-over n k s q in cc) in
-        (l, λ t w. not-written s t (sym (in-periods t k (g .0 .positive)) ∙ (ap (λ (z : ℤ). inPeriods z k) w ∙ q)))
+        (l, λ t w. not-written s t (sym (in-periods t k (divisor g)) ∙ (ap (λ (z : ℤ). inPeriods z k) w ∙ q)))

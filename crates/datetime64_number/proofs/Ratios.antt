@@ -30,7 +30,7 @@ use Rattle.datetime64_number.specs.Numbers.{isNotATime, holdsTime, count
 use Rattle.datetime64_number.specs.Conversions.{yearsBelow, yearsAbove, greatestNumber, ReadsByRatio, WritesByRatio}
 use Rattle.datetime64_number.proofs.Products.{Within, within}
 use Rattle.datetime64_number.proofs.Years.{in-years, within-years}
-use Rattle.datetime64_number.proofs.Rows.{GoodRow}
+use Rattle.datetime64_number.proofs.Rows.{GoodRow, divisor}
 use Rattle.datetime64_number.proofs.Exchange.{product-at, product-place, quotient-at, quotient-place}
 
 -- ---- not-a-time is the number whose bias leaves 0
@@ -136,8 +136,8 @@ fraction-read k r h g q n f i p =
 
 pub ratio-read : (row : UnitRow) (r : Ratio) → GoodRow row → ReadsByRatio row r → (n : ℤ) → SFits w64 n → (i : ℕ) → Place (r .from) (r .below) (r .above) (biased n) i → ReadAt row r n i
 ratio-read (UnitRow.Steps part) r g q = absurd q
-ratio-read (UnitRow.Multiple k) r g q = multiple-read k r (g .positive) q
-ratio-read (UnitRow.Fraction k) r g q = fraction-read k r (g .0 .positive) (g .1) q
+ratio-read (UnitRow.Multiple k) r g q = multiple-read k r g q
+ratio-read (UnitRow.Fraction k) r g q = fraction-read k r (divisor g) g q
 
 -- why a number is refused that is none of the multiples, and holds a time
 abbrev pub unread : ℕ → Refusal
@@ -168,17 +168,17 @@ module _ (k : ℕ) (r : Ratio) (h : 0 < k) (n : ℤ) (f : SFits w64 n) where
 pub ratio-found : (row : UnitRow) (r : Ratio) → GoodRow row → ReadsByRatio row r → (n : ℤ) → SFits w64 n → 0 < biased n → isRead (readByRow row n) ≡ true → IsMultiple r (biased n)
 unfolding readByRow
 ratio-found (UnitRow.Steps part) r g q n f h e = absurd q
-ratio-found (UnitRow.Multiple k) r g q n f h e = multiple-place k r (g .positive) n f q (inside ProlepticGregorian (n *ℤ pos k) true e)
+ratio-found (UnitRow.Multiple k) r g q n f h e = multiple-place k r g n f q (inside ProlepticGregorian (n *ℤ pos k) true e)
 ratio-found (UnitRow.Fraction k) r g q n f h e = go (inPeriods n k) refl e
   where
     go : (a : OffsetAnswer) → inPeriods n k ≡ a → isRead (countRead a) ≡ true → IsMultiple r (biased n)
-    go (OffsetAnswer.Is m) e i = fraction-place k r (g .0 .positive) n f q h m e
+    go (OffsetAnswer.Is m) e i = fraction-place k r (divisor g) n f q h m e
     go (OffsetAnswer.Refused m) e i = absurd (false≢true i)
 
 pub ratio-unread : (row : UnitRow) (r : Ratio) → GoodRow row → ReadsByRatio row r → (n : ℤ) → SFits w64 n → 0 < biased n → (IsMultiple r (biased n) → ⊥) → readByRow row n ≡ Reading.Refused (unread (r .from))
 ratio-unread (UnitRow.Steps part) r g q n f h miss = absurd q
-ratio-unread (UnitRow.Multiple k) r g q n f h miss = multiple-unread k r (g .positive) n f q miss ∙ ap (λ (b : Bool). Reading.Refused (cond b OutOfRange Inexact)) (sym (eq-eqb (r .from) 1 (q .from-is)))
-ratio-unread (UnitRow.Fraction k) r g q n f h miss = fraction-unread k r (g .0 .positive) n f q h miss ∙ ap (λ (b : Bool). Reading.Refused (cond b OutOfRange Inexact)) (sym (ne-eqb (r .from) 1 (λ e. omega (arith, q .from-is, g .1))))
+ratio-unread (UnitRow.Multiple k) r g q n f h miss = multiple-unread k r g n f q miss ∙ ap (λ (b : Bool). Reading.Refused (cond b OutOfRange Inexact)) (sym (eq-eqb (r .from) 1 (q .from-is)))
+ratio-unread (UnitRow.Fraction k) r g q n f h miss = fraction-unread k r (divisor g) n f q h miss ∙ ap (λ (b : Bool). Reading.Refused (cond b OutOfRange Inexact)) (sym (ne-eqb (r .from) 1 (λ e. omega (arith, q .from-is, g))))
 
 -- ---- writing
 
@@ -226,8 +226,8 @@ fraction-written k r h g q t f i p =
 
 pub ratio-written : (row : UnitRow) (r : Ratio) → GoodRow row → WritesByRatio row r → (t : ℤ) → SFits w64 t → (i : ℕ) → Place (r .from) (r .below) (r .above) (biased t) i → WrittenAt row r t i
 ratio-written (UnitRow.Steps part) r g q = absurd q
-ratio-written (UnitRow.Multiple k) r g q = multiple-written k r (g .positive) q
-ratio-written (UnitRow.Fraction k) r g q = fraction-written k r (g .0 .positive) (g .1) q
+ratio-written (UnitRow.Multiple k) r g q = multiple-written k r g q
+ratio-written (UnitRow.Fraction k) r g q = fraction-written k r (divisor g) g q
 
 module _ (k : ℕ) (r : Ratio) (h : 0 < k) (t : ℤ) (f : SFits w64 t) where
   -- an instant that is written is one of the multiples
@@ -257,15 +257,15 @@ instant-found (UnitRow.Steps part) r g q t f h e = absurd q
 instant-found (UnitRow.Multiple k) r g q t f h e = go (inPeriods t k) refl e
   where
     go : (a : OffsetAnswer) → inPeriods t k ≡ a → isNone (offsetRefusal a) ≡ true → IsMultiple r (biased t)
-    go (OffsetAnswer.Is m) e i = instant-place k r (g .positive) t f q h m e
+    go (OffsetAnswer.Is m) e i = instant-place k r g t f q h m e
     go (OffsetAnswer.Refused m) e i = absurd (false≢true i)
 instant-found (UnitRow.Fraction k) r g q t f h e = go (holdsTime (t *ℤ pos k)) refl e
   where
     go : (b : Bool) → holdsTime (t *ℤ pos k) ≡ b → isNone (offsetRefusal (cond b (OffsetAnswer.Is (t *ℤ pos k)) (OffsetAnswer.Refused Inexact))) ≡ true → IsMultiple r (biased t)
-    go true e i = held-place k r (g .0 .positive) t f q e
+    go true e i = held-place k r (divisor g) t f q e
     go false e i = absurd (false≢true i)
 
 pub ratio-unwritten : (row : UnitRow) (r : Ratio) → GoodRow row → WritesByRatio row r → (t : ℤ) → SFits w64 t → inRange ProlepticGregorian t ≡ true → (IsMultiple r (biased t) → ⊥) → writeByRow row t ≡ OffsetAnswer.Refused Inexact
 ratio-unwritten (UnitRow.Steps part) r g q t f i miss = absurd q
-ratio-unwritten (UnitRow.Multiple k) r g q t f i miss = multiple-unwritten k r (g .positive) t f q i miss
-ratio-unwritten (UnitRow.Fraction k) r g q t f i miss = fraction-unwritten k r (g .0 .positive) t f q miss
+ratio-unwritten (UnitRow.Multiple k) r g q t f i miss = multiple-unwritten k r g t f q i miss
+ratio-unwritten (UnitRow.Fraction k) r g q t f i miss = fraction-unwritten k r (divisor g) t f q miss

@@ -47,13 +47,6 @@ module _ (r : Ratio) (g : Good r) (u : ℕ) where
   pub found : (n : ℕ) → first ≤ u → n ≤ r .below + r .above → n * r .from ≡ u - first → IsMultiple r u
   found n h k e = (n, record { inside = k; is = omega (arith, e, g .steps .least) })
 
--- half of a multiple of an even step
-pub half : (i step : ℕ) → step % 2 ≡ 0 → i * step / 2 ≡ i * (step / 2)
-half i step e =
-    let d : step ≡ step / 2 * 2 = omega (arith, e) in
-    let f : i * step ≡ i * (step / 2) * 2 = ap (λ (n : ℕ). i * n) d ∙ sym (mul-assoc i (step / 2) 2) in
-    omega (arith, f)
-
 -- a ratio of known steps
 pub good : {r : Ratio} {from to below above : ℕ} → IsRatio r from to below above → Good r
 good {r} {from} {to} {below} {above} q =

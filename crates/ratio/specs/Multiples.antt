@@ -2,7 +2,7 @@
 -- No promise to a caller of the library rests on it.
 use mathlib.Core.Path.{_≡_}
 use mathlib.Core.Bool.{cond}
-use Prim.Native.Nat.{ℕ, _+_, _*_, _/_, _%_, _≤_, _<_}
+use Prim.Native.Nat.{ℕ, _+_, _*_, _/_, _≤_, _<_}
 use lib.Dec.{ltb}
 use Rattle.ratio.specs.declared.Ratio.{Ratio}
 
@@ -11,18 +11,17 @@ pub record Place (step below above u i : ℕ) : Type 0 where
   pub inside : i ≤ below + above
   pub is : u + below * step ≡ 9223372036854775808 + i * step
 
--- a step whose multiples can be sought, and whose multiples lie in 64 bits
+-- the multiples lie in 64 bits
 pub record Steps (from to below above : ℕ) : Type 0 where
   pub positive : 0 < from
-  pub even : (from ≡ 1 → ⊥) → (6 ≤ from) × (from % 2 ≡ 0)
   pub least : below * from ≤ 9223372036854775808
   pub greatest : above * from < 9223372036854775808
   pub least-to : below * to ≤ 9223372036854775808
   pub greatest-to : above * to < 9223372036854775808
 
--- 2^64 divided by half the step, rounded up
+-- 2^64 divided by the step, rounded up
 abbrev pub reciprocalOf : ℕ → ℕ
-reciprocalOf step = cond (ltb step 6) 0 (18446744073709551615 / (step / 2) + 1)
+reciprocalOf step = cond (ltb step 2) 0 (18446744073709551615 / step + 1)
 
 pub record IsRatio (r : Ratio) (from to below above : ℕ) : Type 0 where
   pub from-is : r .from ≡ from

@@ -1,5 +1,5 @@
 // The multiples of one step exchanged for those of another: m * from for m * to, for each m from -below to above. Both lie in 64 bits.
-// A run divides nothing: the place of a number among the multiples is found by the reciprocal of half the step.
+// A run divides nothing: the place of a number among the multiples is found by the step's reciprocal.
 // A reader may rely on specs/Multiples.antt.
 ghost use mathlib.Core.Path.{_≡_};
 ghost use mathlib.Core.Bool.{true, false};
@@ -15,14 +15,14 @@ pub struct Ratio {
     pub reciprocal: u64,
 }
 
-// 2^64 divided by half the step, rounded up; 0 for small steps, which are not sought by it.
+// 2^64 divided by the step, rounded up; 0 for the step 1, which is not sought by it.
 fn reciprocal_of(step: u64) -> u64
     ensures { λ r. ⌜ r ≡ reciprocalOf step ⌝ }
 {
-    if step < 6 {
+    if step < 2 {
         return 0;
     }
-    return 0xffff_ffff_ffff_ffff / (step / 2) + 1;
+    return 0xffff_ffff_ffff_ffff / step + 1;
 }
 
 pub fn ratio_of(from: u64, to: u64, below: u64, above: u64) -> Ratio
@@ -47,8 +47,7 @@ fn times_in(r: Ratio, v: u64) -> u64
     if r.from == 1 {
         return v;
     }
-    let w = rounding::product(v / 2, r.reciprocal);
-    return w.high;
+    return rounding::high_product(v, r.reciprocal);
 }
 
 // Whether x is one of the multiples.
@@ -75,7 +74,10 @@ pub fn exchanged(r: Ratio, x: i64) -> i64
     requires known { ⌜ IsMultiple r (biased x) ⌝ }
     ensures { λ y. ⌜ ((i : ℕ) → Place (r .from) (r .below) (r .above) (biased x) i → Place (r .to) (r .below) (r .above) (biased y) i) ⌝ }
 {
+    if r.from == r.to {
+        return x;
+    }
     let first = 0x8000_0000_0000_0000 - r.below * r.from;
     let n = times_in(r, signed::biased(x) - first);
-    signed::unbiased(0x8000_0000_0000_0000 - r.below * r.to + n * r.to)
+    return signed::unbiased(0x8000_0000_0000_0000 - r.below * r.to + n * r.to);
 }

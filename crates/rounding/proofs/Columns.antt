@@ -70,3 +70,78 @@ module _ (a b : ℕ) (A : a < 2 ^ 63) (B : b < 2 ^ 63) where
       columns (a₁ * b₁) (a₁ * b₀) (a₀ * b₁) (a₀ * b₀)
       ∙ sym (expand (2 ^ 32) a₀ a₁ b₀ b₁)
       ∙ (λ i. div-add-mod' a (2 ^ 32) i * div-add-mod' b (2 ^ 32) i)
+
+-- ---- the high word of any two words, with the carries from column to column
+-- a digit times another, and a third added
+digits-lt : (x y c : ℕ) → x < 2 ^ 32 → y < 2 ^ 32 → c < 2 ^ 32 → x * y + c < 2 ^ 64
+digits-lt x y c h k l = go (x * y) (mul-le-mul (less x h) (less y k))
+  where
+    less : (x : ℕ) → x < 2 ^ 32 → x ≤ 2 ^ 32 - 1
+    less x h = omega arith
+
+    go : (p : ℕ) → p ≤ (2 ^ 32 - 1) * (2 ^ 32 - 1) → p + c < 2 ^ 64
+    go p m = omega arith
+
+module _ (a b : ℕ) (A : a < 2 ^ 64) (B : b < 2 ^ 64) where
+  abbrev c₀ : ℕ
+  c₀ = a % 2 ^ 32
+
+  abbrev c₁ : ℕ
+  c₁ = a / 2 ^ 32
+
+  abbrev d₀ : ℕ
+  d₀ = b % 2 ^ 32
+
+  abbrev d₁ : ℕ
+  d₁ = b / 2 ^ 32
+
+  abbrev mid : ℕ
+  mid = c₁ * d₀ + c₀ * d₀ / 2 ^ 32
+
+  abbrev next : ℕ
+  next = mid % 2 ^ 32 + c₀ * d₁
+
+  digits : (c₀ < 2 ^ 32) × (c₁ < 2 ^ 32) × (d₀ < 2 ^ 32) × (d₁ < 2 ^ 32)
+  digits = (omega arith, omega arith, omega arith, omega arith)
+
+  pub word-low : c₀ * d₀ < 2 ^ 64
+  word-low = omega (arith, digits-lt c₀ d₀ 0 (digits .0) (digits .2) (omega arith))
+
+  pub word-mid : c₁ * d₀ < 2 ^ 64
+  word-mid = omega (arith, digits-lt c₁ d₀ 0 (digits .1) (digits .2) (omega arith))
+
+  pub word-middle : mid < 2 ^ 64
+  word-middle = digits-lt c₁ d₀ (c₀ * d₀ / 2 ^ 32) (digits .1) (digits .2) (omega (arith, word-low))
+
+  pub word-cross : c₀ * d₁ < 2 ^ 64
+  word-cross = omega (arith, digits-lt c₀ d₁ 0 (digits .0) (digits .3) (omega arith))
+
+  pub word-next : next < 2 ^ 64
+  word-next = omega (arith, digits-lt c₀ d₁ (mid % 2 ^ 32) (digits .0) (digits .3) (omega arith))
+
+  pub word-high : c₁ * d₁ < 2 ^ 64
+  word-high = omega (arith, digits-lt c₁ d₁ 0 (digits .1) (digits .3) (omega arith))
+
+  -- the columns are the product, and what lies below the high word is less than it
+  carried : (h x y l : ℕ) → let m = x + l / 2 ^ 32 in
+      let n = m % 2 ^ 32 + y in
+      h * 2 ^ 64 + x * 2 ^ 32 + y * 2 ^ 32 + l ≡ (h + m / 2 ^ 32 + n / 2 ^ 32) * 2 ^ 64 + (n % 2 ^ 32 * 2 ^ 32 + l % 2 ^ 32)
+  carried h x y l = omega arith
+
+  pub high-word : c₁ * d₁ + mid / 2 ^ 32 + next / 2 ^ 32 ≡ a * b / 2 ^ 64
+  high-word =
+      let e : a * b ≡ (c₁ * d₁ + mid / 2 ^ 32 + next / 2 ^ 32) * 2 ^ 64 + (next % 2 ^ 32 * 2 ^ 32 + c₀ * d₀ % 2 ^ 32) =
+      (λ i. sym (div-add-mod' a (2 ^ 32)) i * sym (div-add-mod' b (2 ^ 32)) i) ∙ (expand (2 ^ 32) c₀ c₁ d₀ d₁ ∙ carried (c₁ * d₁) (c₁ * d₀) (c₀ * d₁) (c₀ * d₀)) in
+      go (a * b) (c₁ * d₁ + mid / 2 ^ 32 + next / 2 ^ 32) (next % 2 ^ 32 * 2 ^ 32 + c₀ * d₀ % 2 ^ 32) e (omega arith)
+    where
+      go : (p h l : ℕ) → p ≡ h * 2 ^ 64 + l → l < 2 ^ 64 → h ≡ p / 2 ^ 64
+      go p h l e f = omega arith
+
+  pub word-sum : c₁ * d₁ + mid / 2 ^ 32 + next / 2 ^ 32 < 2 ^ 64
+  word-sum = subst (λ (n : ℕ). n < 2 ^ 64) (sym high-word) (shr-lt 64 64 (product-lt 64 64 A B))
+
+  pub word-carry : c₁ * d₁ + mid / 2 ^ 32 < 2 ^ 64
+  word-carry = go (c₁ * d₁ + mid / 2 ^ 32) (next / 2 ^ 32) word-sum
+    where
+      go : (x y : ℕ) → x + y < 2 ^ 64 → x < 2 ^ 64
+      go x y h = omega arith

@@ -1,7 +1,7 @@
 // Products past 64 bits and their quotients by powers of two, rounded to the nearest whole number, a tie to the even one.
 // A reader may rely on `closest a d` of the library lib.Ieee.Nearest: every rounding here is an equation with it.
 ghost use mathlib.Core.Path.{_≡_};
-ghost use Prim.Native.Nat.{_+_, _*_, _^_, _≤_, _<_};
+ghost use Prim.Native.Nat.{_+_, _*_, _/_, _^_, _≤_, _<_};
 ghost use Rattle.rounding.specs.Rounding.{RoundedTo};
 ghost use Rattle.rounding.specs.Steps.{stickyOf, incrementOf};
 
@@ -32,6 +32,20 @@ pub fn product(a: u64, b: u64) -> Wide
         high: a1 * b1 + mid / 0x1_0000_0000,
         low: (mid % 0x1_0000_0000) * 0x1_0000_0000 + low % 0x1_0000_0000,
     }
+}
+
+// The high word of a * b. The carries go from column to column in the form that the compiler makes one instruction of.
+pub fn high_product(a: u64, b: u64) -> u64
+    ensures { λ r. ⌜ r ≡ a * b / 2 ^ 64 ⌝ }
+{
+    let a0 = a % 0x1_0000_0000;
+    let a1 = a / 0x1_0000_0000;
+    let b0 = b % 0x1_0000_0000;
+    let b1 = b / 0x1_0000_0000;
+    let low = a0 * b0;
+    let mid = a1 * b0 + low / 0x1_0000_0000;
+    let next = mid % 0x1_0000_0000 + a0 * b1;
+    a1 * b1 + mid / 0x1_0000_0000 + next / 0x1_0000_0000
 }
 
 // The sticky bit: 1 for every number but 0.
