@@ -3,3 +3,4 @@ pub mod Cuts
 pub mod Putting
 pub mod Checks
 pub mod Back
+pub mod Theorems
