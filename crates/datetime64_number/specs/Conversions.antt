@@ -1,14 +1,23 @@
 -- What a run finds once for its unit. No promise to a caller of the library rests on it.
 use mathlib.Core.Path.{_≡_}
+use mathlib.Core.Bool.{true, false}
 use mathlib.Core.Option.{Option, none, some}
 use Prim.Native.Nat.{ℕ, _/_}
-use lib.IntN.{pos}
+use lib.IntN.{ℤ, pos}
+use mir.Syntax.{w64}
+use mir.Val.{SFits}
+use Rattle.signed.specs.Bias.{biased}
 use Rattle.refusal.specs.declared.Refusal.{Refusal}
 use Rattle.calendar.specs.declared.Calendar.the-variants.{ProlepticGregorian}
+use Rattle.step.specs.declared.Part.{Part}
 use Rattle.calendar_axis.specs.Start.{StartOf}
-use Rattle.ratio.specs.Multiples.{IsRatio}
+use Rattle.axis_types.specs.Reading.{isRead}
+use Rattle.calendar_axis.specs.Steps.{readSteps}
+use Rattle.ratio.specs.Multiples.{IsRatio, AroundZero, Between}
+use Rattle.ratio.specs.declared.Bounds.{Bounds}
 use Rattle.ratio.specs.declared.Ratio.{Ratio}
 use Rattle.datetime64_type.specs.declared.UnitRow.{UnitRow}
+use Rattle.datetime64_number.specs.Numbers.{isNotATime}
 use Rattle.datetime64_number.specs.declared.Conversion.{Conversion}
 use Rattle.datetime64_number.specs.declared.NumberCheck.{NumberCheck}
 
@@ -47,3 +56,9 @@ Writes row (Conversion.Fixed ratio) = WritesByRatio row ratio
 abbrev pub refusalIn : NumberCheck → Option Refusal
 refusalIn NumberCheck.Good = none
 refusalIn (NumberCheck.Refused r) = some r
+
+-- every number of steps between the bounds is read
+pub record NearBounds (part : Part) (b : Bounds) : Type 0 where
+  pub around : AroundZero b
+  pub time : (n : ℤ) → Between b (biased n) → isNotATime n ≡ false
+  pub read : (n : ℤ) → SFits w64 n → Between b (biased n) → isRead (readSteps part ProlepticGregorian (pos 0) n) ≡ true

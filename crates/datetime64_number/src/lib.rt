@@ -12,13 +12,14 @@ ghost use Rattle.calendar_axis.specs.Steps.{readSteps};
 ghost use Rattle.calendar_axis.specs.Start.{StartOf};
 ghost use Rattle.datetime64_type.specs.declared.UnitRow.{UnitRow};
 ghost use Rattle.datetime64_number.specs.Numbers.{isNotATime, readNumber, writeNumber};
-ghost use Rattle.datetime64_number.specs.Conversions.{ReadsByRatio, WritesByRatio, Reads, Writes, refusalIn};
+ghost use Rattle.datetime64_number.specs.Conversions.{ReadsByRatio, WritesByRatio, Reads, Writes, refusalIn, NearBounds};
 use axis_types::OffsetAnswer;
 use axis_types::Reading;
 use calendar::Calendar;
 use calendar_axis::Start;
 use datetime64_type::UnitCode;
 use datetime64_type::UnitRow;
+use ratio::Bounds;
 use ratio::Ratio;
 use refusal::Refusal;
 use step::Part;
@@ -116,16 +117,15 @@ fn near_steps(part: Part) -> u64
     }
 }
 
-// Whether a number of steps is at most as great.
-fn is_near(part: Part, n: i64) -> bool
-    ensures { λ b. ⌜ (b ≡ true → (isNotATime n ≡ false) × (isRead (readSteps part ProlepticGregorian (pos 0) n) ≡ true)) ⌝ }
+// Bounds between which every number of steps is read.
+pub fn near_bounds(part: Part) -> Bounds
+    ensures { λ b. ⌜ NearBounds part b ⌝ }
 {
     let most = near_steps(part);
-    let k = signed::biased(n);
-    if k < 0x8000_0000_0000_0000 - most {
-        return false;
+    Bounds {
+        low: 0x8000_0000_0000_0000 - most,
+        high: 0x8000_0000_0000_0000 + most,
     }
-    return k <= 0x8000_0000_0000_0000 + most;
 }
 
 // A number of months or years.
@@ -134,9 +134,6 @@ fn check_steps(unit: UnitCode, part: Part, start: Start, n: i64) -> NumberCheck
     requires from { ⌜ StartOf ProlepticGregorian (pos 0) start ⌝ }
     ensures { λ r. ⌜ refusalIn r ≡ refusalOf (readNumber unit n) ⌝ }
 {
-    if is_near(part, n) {
-        return NumberCheck::Good;
-    }
     if signed::biased(n) == 0 {
         return NumberCheck::Refused(Refusal::NotATime);
     }
@@ -157,18 +154,23 @@ pub fn check_number(unit: UnitCode, conversion: Conversion, n: i64) -> NumberChe
     }
 }
 
-// The instant of a number that is known to be read.
-pub fn instant_read(unit: UnitCode, conversion: Conversion, n: i64) -> i64
-    requires conversion { ⌜ Reads (unitRowOf unit) conversion ⌝ }
+// The instant of a number of months or years that is known to be read.
+pub fn instant_by_steps(unit: UnitCode, part: Part, start: Start, n: i64) -> i64
+    requires row { ⌜ unitRowOf unit ≡ UnitRow.Steps part ⌝ }
+    requires from { ⌜ StartOf ProlepticGregorian (pos 0) start ⌝ }
     requires read { ⌜ isRead (readNumber unit n) ≡ true ⌝ }
     ensures { λ t. ⌜ t ≡ instantOf (readNumber unit n) ⌝ }
 {
-    match conversion {
-        Conversion::Calendar(part, start) => {
-            return calendar_axis::instant_after(Calendar::ProlepticGregorian, part, start, n);
-        }
-        Conversion::Fixed(ratio) => return ratio::exchanged(ratio, n),
-    }
+    calendar_axis::instant_after(Calendar::ProlepticGregorian, part, start, n)
+}
+
+// The instant of a number of another unit that is known to be read.
+pub fn instant_by_ratio(unit: UnitCode, ratio: Ratio, n: i64) -> i64
+    requires ratio { ⌜ ReadsByRatio (unitRowOf unit) ratio ⌝ }
+    requires read { ⌜ isRead (readNumber unit n) ≡ true ⌝ }
+    ensures { λ t. ⌜ t ≡ instantOf (readNumber unit n) ⌝ }
+{
+    ratio::exchanged(ratio, n)
 }
 
 // ---- writing
@@ -213,18 +215,23 @@ pub fn check_instant(unit: UnitCode, conversion: Conversion, t: i64) -> NumberCh
     }
 }
 
-// The number of an instant that is known to be written.
-pub fn number_written(unit: UnitCode, conversion: Conversion, t: i64) -> i64
-    requires conversion { ⌜ Writes (unitRowOf unit) conversion ⌝ }
+// The number of an instant in months or years that is known to be written.
+pub fn number_by_steps(unit: UnitCode, part: Part, start: Start, t: i64) -> i64
+    requires row { ⌜ unitRowOf unit ≡ UnitRow.Steps part ⌝ }
+    requires from { ⌜ StartOf ProlepticGregorian (pos 0) start ⌝ }
+    ensures { λ n. ⌜ n ≡ offsetOf (writeNumber unit t) ⌝ }
+{
+    match write_steps(unit, part, start, t) {
+        OffsetAnswer::Is(n) => return n,
+        OffsetAnswer::Refused(_) => return 0,
+    }
+}
+
+// The number of an instant in another unit that is known to be written.
+pub fn number_by_ratio(unit: UnitCode, ratio: Ratio, t: i64) -> i64
+    requires ratio { ⌜ WritesByRatio (unitRowOf unit) ratio ⌝ }
     requires written { ⌜ isNone (offsetRefusal (writeNumber unit t)) ≡ true ⌝ }
     ensures { λ n. ⌜ n ≡ offsetOf (writeNumber unit t) ⌝ }
 {
-    match conversion {
-        Conversion::Calendar(part, start) => match write_steps(unit, part, start, t) {
-            OffsetAnswer::Is(n) => return n,
-            // no instant that is written comes here
-            OffsetAnswer::Refused(_) => return 0,
-        },
-        Conversion::Fixed(ratio) => return ratio::exchanged(ratio, t),
-    }
+    ratio::exchanged(ratio, t)
 }

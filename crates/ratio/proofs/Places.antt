@@ -1,8 +1,9 @@
 -- The place of a number among the multiples.
 use mathlib.Core.Path.{_≡_, refl, sym, ap, _∙_, subst}
-use Prim.Native.Nat.{ℕ, _+_, _-_, _*_, _/_, _%_, _≤_, _<_}
+use Prim.Native.Nat.{ℕ, _+_, _-_, _*_, _/_, _%_, _≤_, _<_, _^_}
 use native.Mathlib.Nat.{add-mul, mul-assoc, mul-le-mul-right, le-mul-of-pos-right}
 use native.Mathlib.Omega.{arith}
+use lib.Bits.{bitOr, or-add-and, and-le-l, and-le-r}
 use Rattle.ratio.specs.Multiples.{Place, Steps, reciprocalOf, IsRatio, Good, IsMultiple}
 use Rattle.ratio.specs.declared.Ratio.{Ratio}
 
@@ -60,3 +61,11 @@ good {r} {from} {to} {below} {above} q =
           subst (λ (f : ℕ). Steps f (r .to) (r .below) (r .above)) (sym (q .from-is))
           (subst (λ (t : ℕ). Steps from t (r .below) (r .above)) (sym (q .to-is)) (subst (λ (b : ℕ). Steps from to b (r .above)) (sym (q .below-is)) (subst (Steps from to below) (sym (q .above-is)) (q .steps))));
     }
+
+-- ---- bounds
+pub or-small : (a b : ℕ) → bitOr a b < 9223372036854775808 → (a < 9223372036854775808) × (b < 9223372036854775808)
+or-small a b h = (omega (arith, or-add-and a b, and-le-r a b), omega (arith, or-add-and a b, and-le-l a b))
+
+-- the differences of u from bounds around 0 wrap where it lies outside
+pub between : (low high u below above : ℕ) → low ≤ 9223372036854775808 → 9223372036854775808 ≤ high → u < 2 ^ 64 → (below + low) % 2 ^ 64 ≡ u → (above + u) % 2 ^ 64 ≡ high → below < 9223372036854775808 → above < 9223372036854775808 → (low ≤ u) × (u ≤ high)
+between low high u below above l h f d e p q = (omega arith, omega arith)

@@ -5,6 +5,7 @@ use mathlib.Core.Bool.{cond}
 use Prim.Native.Nat.{ℕ, _+_, _*_, _/_, _≤_, _<_}
 use lib.Dec.{ltb}
 use Rattle.ratio.specs.declared.Ratio.{Ratio}
+use Rattle.ratio.specs.declared.Bounds.{Bounds}
 
 -- u is the number i - below times the step
 pub record Place (step below above u i : ℕ) : Type 0 where
@@ -37,3 +38,14 @@ Good r = IsRatio r (r .from) (r .to) (r .below) (r .above)
 -- u is one of the multiples that are exchanged
 abbrev pub IsMultiple : Ratio → ℕ → Type 0
 IsMultiple r u = (i : ℕ) × Place (r .from) (r .below) (r .above) u i
+
+-- ---- bounds
+abbrev pub AroundZero : Bounds → Type 0
+AroundZero b = (b .low ≤ 9223372036854775808) × (9223372036854775808 ≤ b .high)
+
+abbrev pub Between : Bounds → ℕ → Type 0
+Between b u = (b .low ≤ u) × (u ≤ b .high)
+
+pub record IsBounds (r : Ratio) (b : Bounds) : Type 0 where
+  pub around : AroundZero b
+  pub all : (u : ℕ) → Between b u → IsMultiple r u

@@ -3,9 +3,9 @@
 // A reader may rely on specs/Multiples.antt.
 ghost use mathlib.Core.Path.{_≡_};
 ghost use mathlib.Core.Bool.{true, false};
-ghost use Prim.Native.Nat.{ℕ, _*_};
+ghost use Prim.Native.Nat.{ℕ, _*_, _<_};
 ghost use Rattle.signed.specs.Bias.{biased};
-ghost use Rattle.ratio.specs.Multiples.{Steps, Place, reciprocalOf, IsRatio, Good, IsMultiple};
+ghost use Rattle.ratio.specs.Multiples.{Steps, Place, reciprocalOf, IsRatio, Good, IsMultiple, AroundZero, Between, IsBounds};
 
 pub struct Ratio {
     pub from: u64,
@@ -80,4 +80,36 @@ pub fn exchanged(r: Ratio, x: i64) -> i64
     let first = 0x8000_0000_0000_0000 - r.below * r.from;
     let n = times_in(r, signed::biased(x) - first);
     return signed::unbiased(0x8000_0000_0000_0000 - r.below * r.to + n * r.to);
+}
+
+// Two numbers, with their bias of 2^63.
+pub struct Bounds {
+    pub low: u64,
+    pub high: u64,
+}
+
+// Bounds between which every number is one of the multiples: of the step 1 all of them, of another only 0.
+pub fn bounds_of(r: Ratio) -> Bounds
+    requires { ⌜ Good r ⌝ }
+    ensures { λ b. ⌜ IsBounds r b ⌝ }
+{
+    if r.from == 1 {
+        return Bounds {
+            low: 0x8000_0000_0000_0000 - r.below,
+            high: 0x8000_0000_0000_0000 + r.above,
+        };
+    }
+    return Bounds {
+        low: 0x8000_0000_0000_0000,
+        high: 0x8000_0000_0000_0000,
+    };
+}
+
+// A number from 2^63 on where x lies outside bounds around 0: the first bit of one of two differences.
+pub fn strayed(b: Bounds, x: i64) -> u64
+    requires { ⌜ AroundZero b ⌝ }
+    ensures { λ r. ⌜ (r < 9223372036854775808 → Between b (biased x)) ⌝ }
+{
+    let u = signed::biased(x);
+    std::num::wrapping_sub_u64(u, b.low) | std::num::wrapping_sub_u64(b.high, u)
 }

@@ -22,38 +22,29 @@ returns : tie.Need-returns
 returns c =
     let b = c .before in
     let s = b .before in
-    let e = toZ-ofZ w64 (s .args .n) (s .fits .n) in
-    let g = b .is-near .ensures (c .if1 .taken) in
-    let w = was-read (readSteps (s .args .part) ProlepticGregorian (pos 0) (s .args .n)) (ap (λ (z : ℤ). isRead (readSteps (s .args .part) ProlepticGregorian (pos 0) z)) (sym e) ∙ g .1) in
-    sym (ap refusalOf (read-steps (s .args .unit) (s .args .part) (s .pre .0) (s .args .n) (ap isNotATime (sym e) ∙ g .0) ∙ w .2))
-
-returns-2 : tie.Need-returns-2
-returns-2 c =
-    let b = c .before in
-    let s = b .before .before .before in
     let e = b .biased .ensures ∙ ap biased (toZ-ofZ w64 (s .args .n) (s .fits .n)) in
-    sym (ap refusalOf (not-a-time (s .args .unit) (s .args .n) (s .fits .n) (sym e ∙ c .if2 .taken)))
+    sym (ap refusalOf (not-a-time (s .args .unit) (s .args .n) (s .fits .n) (sym e ∙ c .if1 .taken)))
 
 read-from-requires : tie.Need-read-from-requires
-read-from-requires c κs = let s = c .before .before .before .before in (s .pre .1 .year, start-time ProlepticGregorian (pos 0) (s .args .start) (s .pre .1))
+read-from-requires c κs = let s = c .before .before in (s .pre .1 .year, start-time ProlepticGregorian (pos 0) (s .args .start) (s .pre .1))
 
 -- what is read from the start is what is read
-read-is : (b : tie.After-read-from) → let a = b .before .before .before .before .before .args in readNumber (a .unit) (a .n) ≡ b .read-from .result
+read-is : (b : tie.After-read-from) → let a = b .before .before .before .args in readNumber (a .unit) (a .n) ≡ b .read-from .result
 read-is b =
     let k = b .before in
-    let s = k .before .before .before .before in
+    let s = k .before .before in
     let n = s .args .n in
     let e = toZ-ofZ w64 n (s .fits .n) in
-    let f : 0 < biased n = omega (arith, k .before .biased .ensures ∙ ap biased e, k .if2 .left) in
+    let f : 0 < biased n = omega (arith, k .before .biased .ensures ∙ ap biased e, k .if1 .left) in
     read-steps (s .args .unit) (s .args .part) (s .pre .0) n (has-time n f)
     ∙ (sym (from-start (s .args .part) ProlepticGregorian (pos 0) (s .args .start) n (s .pre .1))
     ∙ (ap (readFrom (s .args .part) ProlepticGregorian (s .args .start .date) (s .args .start .time)) (sym e) ∙ sym (b .read-from .ensures)))
 
-returns-3 : tie.Need-returns-3
-returns-3 c = sym (ap refusalOf (read-is (c .before .before) ∙ c .enum-told .given .1))
+returns-2 : tie.Need-returns-2
+returns-2 c = sym (ap refusalOf (read-is (c .before .before) ∙ c .enum-told .given .1))
 
-returns-4 : tie.Need-returns-4
-returns-4 c = sym (ap refusalOf (read-is (c .before .before .before) ∙ c .before .r .given .1))
+returns-3 : tie.Need-returns-3
+returns-3 c = sym (ap refusalOf (read-is (c .before .before .before) ∙ c .before .r .given .1))
 
 pub check-steps-spec : {M : Type 1} → statement M
 check-steps-spec =
@@ -61,10 +52,8 @@ check-steps-spec =
     (tie.spec
     (λ c κs. search needs)
     returns
-    (λ c κs. search needs)
-    returns-2
     read-from-requires
     (λ c. search needs)
-    returns-3
+    returns-2
     (λ c. search needs)
-    returns-4)
+    returns-3)
