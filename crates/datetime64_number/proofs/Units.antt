@@ -1,6 +1,7 @@
 -- Numbers and instants of a unit, as the functions meet them: the tests before the row, and what a ratio or steps give.
 use mathlib.Core.Path.{_≡_, refl, sym, ap, _∙_}
 use mathlib.Core.Bool.{Bool, true, false, cond, false≢true}
+use mathlib.Core.Option.{none}
 use Prim.Native.Nat.{ℕ, _<_}
 use native.Mathlib.Omega.{arith}
 use lib.IntN.{ℤ, pos}
@@ -11,19 +12,21 @@ use Rattle.signed.specs.Bias.{biased, unbiased}
 use Rattle.signed.proofs.Differences.{unbiased-biased}
 use Rattle.calendar.specs.declared.Calendar.the-variants.{ProlepticGregorian}
 use Rattle.instant.specs.Instant.{inRange}
-use Rattle.axis_types.specs.Reading.{isNone, isRead, instantOf, offsetOf, offsetRefusal}
+use Rattle.axis_types.specs.Reading.{refusalOf, isNone, isRead, instantOf, offsetOf, offsetRefusal}
+use Rattle.axis_types.proofs.Answers.{was-read}
 use Rattle.axis_types.specs.declared.Reading.{Reading}
 use Rattle.axis_types.specs.declared.OffsetAnswer.{OffsetAnswer}
 use Rattle.calendar_axis.specs.Steps.{readSteps, writeSteps}
 use Rattle.step.specs.declared.Part.{Part}
-use Rattle.ratio.specs.Multiples.{Place, IsMultiple, Good}
+use Rattle.ratio.specs.Multiples.{Place, IsMultiple, Good, Between}
+use Rattle.ratio.specs.declared.Bounds.{Bounds}
 use Rattle.ratio.specs.declared.Ratio.{Ratio}
 use Rattle.ratio.proofs.Places.{good}
 use Rattle.datetime64_type.specs.Units.{unitRowOf}
 use Rattle.datetime64_type.specs.declared.UnitCode.{UnitCode}
 use Rattle.datetime64_type.specs.declared.UnitRow.{UnitRow}
 use Rattle.datetime64_number.specs.Numbers.{isNotATime, readByRow, readNumber, writeByRow, writeNumber}
-use Rattle.datetime64_number.specs.Conversions.{ReadsByRatio, WritesByRatio}
+use Rattle.datetime64_number.specs.Conversions.{ReadsByRatio, WritesByRatio, NearBounds}
 use Rattle.datetime64_number.proofs.Rows.{rows}
 use Rattle.datetime64_number.proofs.Ratios.{no-time, time-biased, ratio-read, ratio-found, unread, ratio-unread, ratio-written, instant-found, ratio-unwritten}
 
@@ -64,9 +67,18 @@ module _ (unit : UnitCode) where
   unfolding readByRow
   read-steps part e n h = read-by-row n h ∙ ap (λ (row : UnitRow). readByRow row n) e
 
+  -- a number between the bounds of steps
+  pub near-good : (part : Part) → unitRowOf unit ≡ UnitRow.Steps part → (b : Bounds) → NearBounds part b → (n : ℤ) → SFits w64 n → Between b (biased n) → refusalOf (readNumber unit n) ≡ none
+  near-good part e b k n f h =
+      let w = was-read (readSteps part ProlepticGregorian (pos 0) n) (k .read n f h) in
+      ap refusalOf (read-steps part e n (k .time n h) ∙ w .2)
+
   module _ (r : Ratio) (q : ReadsByRatio (unitRowOf unit) r) (n : ℤ) (f : SFits w64 n) where
     pub multiple-read : (m : IsMultiple r (biased n)) → readNumber unit n ≡ Reading.At (ratio-read (unitRowOf unit) r (rows unit) q n f (m .0) (m .1) .instant) true
     multiple-read m = let a = ratio-read (unitRowOf unit) r (rows unit) q n f (m .0) (m .1) in read-by-row n (a .time) ∙ a .read
+
+    pub multiple-good : IsMultiple r (biased n) → refusalOf (readNumber unit n) ≡ none
+    multiple-good m = ap refusalOf (multiple-read m)
 
     pub other-read : isNotATime n ≡ false → 0 < biased n → (IsMultiple r (biased n) → ⊥) → readNumber unit n ≡ Reading.Refused (unread (r .from))
     other-read h g miss = read-by-row n h ∙ ratio-unread (unitRowOf unit) r (rows unit) q n f g miss
@@ -106,6 +118,9 @@ module _ (unit : UnitCode) where
   module _ (r : Ratio) (q : WritesByRatio (unitRowOf unit) r) (t : ℤ) (f : SFits w64 t) where
     pub multiple-written : (m : IsMultiple r (biased t)) → writeNumber unit t ≡ OffsetAnswer.Is (ratio-written (unitRowOf unit) r (rows unit) q t f (m .0) (m .1) .number)
     multiple-written m = let a = ratio-written (unitRowOf unit) r (rows unit) q t f (m .0) (m .1) in written-by-row t (a .inside) ∙ a .written
+
+    pub written-good : IsMultiple r (biased t) → offsetRefusal (writeNumber unit t) ≡ none
+    written-good m = ap offsetRefusal (multiple-written m)
 
     pub other-written : inRange ProlepticGregorian t ≡ true → (IsMultiple r (biased t) → ⊥) → writeNumber unit t ≡ OffsetAnswer.Refused Inexact
     other-written h miss = written-by-row t h ∙ ratio-unwritten (unitRowOf unit) r (rows unit) q t f h miss

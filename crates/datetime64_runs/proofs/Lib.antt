@@ -4,3 +4,4 @@ pub mod Putting
 pub mod Checks
 pub mod Back
 pub mod Theorems
+pub mod Sure

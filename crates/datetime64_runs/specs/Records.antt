@@ -45,6 +45,10 @@ unfoldable pub cut : ℕ → List ℕ → List (List ℕ)
 cut zero s = []
 cut (suc n) s = take 8 s ∷ cut n (drop 8 s)
 
+-- the number of the record at place i
+abbrev pub numberAt : ByteOrder → List ℕ → ℕ → ℤ
+numberAt order s i = numberIn order (take 8 (drop (8 * i) s))
+
 abbrev pub recordCount : List ℕ → ℕ
 recordCount s = length s / 8
 

@@ -5,7 +5,7 @@ ghost use lib.ListN.{length, take, drop, getD};
 ghost use mir.Syntax.{w64};
 ghost use mir.Val.{toZ, ofZ};
 ghost use mathlib.Core.List.{[], _∷_, _++_, reverse};
-ghost use Rattle.datetime64_runs.specs.Records.{littleEndian, littleBytes, inOrder, numberIn, recordOf};
+ghost use Rattle.datetime64_runs.specs.Records.{littleEndian, littleBytes, inOrder, numberIn, numberAt, recordOf};
 use datetime64_type::ByteOrder;
 
 // The number of eight bytes.
@@ -111,7 +111,7 @@ fn number_in(order: ByteOrder, r: &[u8]) -> i64
 // The number of the record at place i.
 pub fn number_at(order: ByteOrder, bytes: &[u8], i: usize) -> i64
     requires { ⌜ 8 * i + 8 ≤ length (now bytes) ⌝ }
-    ensures { λ n. ⌜ n ≡ numberIn order (take 8 (drop (8 * i) (now (bytes .entry)))) ⌝ }
+    ensures { λ n. ⌜ n ≡ numberAt order (now (bytes .entry)) i ⌝ }
 {
     number_in(order, &bytes[8 * i..8 * i + 8])
 }

@@ -22,28 +22,28 @@ use Rattle.datetime64_runs.proofs.reading.first_refused_record.Statemen
 use Rattle.datetime64_runs.proofs.reading.first_refused_record.Tie as tie
 
 abbrev Inv-loop : tie.InvT-loop
-Inv-loop bytes order unit conversion count i₀ i = Checking (λ (r : List ℕ). refusalOf (readNumber unit (numberIn order r))) (recordsIn bytes) i
+Inv-loop conversion bytes order unit count i₀ i = Checking (λ (r : List ℕ). refusalOf (readNumber unit (numberIn order r))) (recordsIn bytes) i
 
 abbrev μ-loop : tie.MeasureT-loop
-μ-loop bytes order unit conversion count i₀ i = count - i
+μ-loop conversion bytes order unit count i₀ i = count - i
 
 loop-holds : tie.Need-loop-holds Inv-loop μ-loop
 loop-holds c = checking-starts
 
 number-at-requires : tie.Need-number-at-requires Inv-loop μ-loop
-number-at-requires c κs = let l = c .before in record-ends (l .before .before .before .args .bytes .now) (l .loop .i) (c .loop-test .taken)
+number-at-requires c κs = let l = c .before in record-ends (l .before .before .args .bytes .now) (l .loop .i) (c .loop-test .taken)
 
 check-number-requires : tie.Need-check-number-requires Inv-loop μ-loop
-check-number-requires c κs = c .before .before .before .reading-of .ensures
+check-number-requires c κs = c .before .before .before .before .pre .1
 
 -- what is refused of the record at the place
 checked-record : (k : tie.After-check-number Inv-loop μ-loop) {q : NumberCheck} → k .check-number .result ≡ q → let l = k .before .before .before in
-    let a = l .before .before .before .args in
+    let a = l .before .before .args in
     refusalOf (readNumber (a .t .unit) (numberIn (a .t .order) (getD (recordsIn (a .bytes .now)) (l .loop .i) []))) ≡ refusalIn q
 checked-record k h =
     let n = k .before in
     let l = n .before .before in
-    let a = l .before .before .before .args in
+    let a = l .before .before .args in
     let z = n .number-at .result in
     sym
     (sym (ap refusalIn h)
@@ -52,8 +52,8 @@ checked-record k h =
     (toZ-ofZ w64 z (record { sfits = n .number-at .ok }) ∙ (n .number-at .ensures ∙ ap (numberIn (a .t .order)) (sym (record-at (a .bytes .now) (l .loop .i) (n .before .loop-test .taken)))))))
 
 -- a place of the loop is one of a record
-placed : (b : tie.In-loop Inv-loop μ-loop) → let l = b .before in l .loop .i < length (recordsIn (l .before .before .before .args .bytes .now))
-placed b = let l = b .before in omega (arith, b .loop-test .taken, record-count (l .before .before .before .args .bytes .now))
+placed : (b : tie.In-loop Inv-loop μ-loop) → let l = b .before in l .loop .i < length (recordsIn (l .before .before .args .bytes .now))
+placed b = let l = b .before in omega (arith, b .loop-test .taken, record-count (l .before .before .args .bytes .now))
 
 returns : tie.Need-returns Inv-loop μ-loop
 returns c =
@@ -68,7 +68,7 @@ loop-again c =
     checking-on [] (b .before .loop .inv) (placed b) (checked-record k (c .enum-told .given .1))
 
 returns-2 : tie.Need-returns-2 Inv-loop μ-loop
-returns-2 c = checking-ends (c .before .loop .inv) (omega (arith, c .loop-test .left, record-count (c .before .before .before .before .args .bytes .now)))
+returns-2 c = checking-ends (c .before .loop .inv) (omega (arith, c .loop-test .left, record-count (c .before .before .before .args .bytes .now)))
 
 pub first-refused-record-spec : {M : Type 1} → statement M
 first-refused-record-spec =
@@ -76,7 +76,6 @@ first-refused-record-spec =
     (tie.spec
     Inv-loop
     μ-loop
-    (λ c κs. search needs)
     loop-holds
     number-at-requires
     check-number-requires

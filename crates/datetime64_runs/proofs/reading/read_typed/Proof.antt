@@ -12,15 +12,15 @@ write-instants-requires : tie.Need-write-instants-requires
 write-instants-requires c κs =
     let m = c .before in
     let o = m .before .before in
-    let a = o .before .before .args in
+    let a = o .before .before .before .args in
     let p = passed (a .t) (a .bytes .now) (length (a .destination .now)) (sym (o .check-records .ensures) ∙ m .enum-told2 .given .1) in
-    (p .whole, (p .fits, p .all-read))
+    (o .before .reading-of .ensures, (p .fits, p .all-read))
 
 returns : tie.Need-returns
 returns c =
     let m = c .before in
     let o = m .before .before in
-    let a = o .before .before .args in
+    let a = o .before .before .before .args in
     let e = o .check-records .ensures in
     let g = m .enum-told .given .1 in
     (answered e g (recordCount (a .bytes .now)) 0 0 0 (c .answer .ensures) refl, left e g _ (a .destination .now))
@@ -30,7 +30,7 @@ returns-2 c =
     let w = c .before .before in
     let m = w .before .before in
     let o = m .before .before in
-    let a = o .before .before .args in
+    let a = o .before .before .before .args in
     let e = o .check-records .ensures in
     let g = m .enum-told2 .given .1 in
     let n = recordCount (a .bytes .now) in
@@ -40,6 +40,7 @@ pub read-typed-spec : {M : Type 1} → statement M
 read-typed-spec =
     tie.close
     (tie.spec
+    (λ c κs. search needs)
     (λ c κs. search needs)
     (λ c. search needs)
     (λ c κs. search needs)

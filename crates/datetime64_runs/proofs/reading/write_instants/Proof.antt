@@ -1,81 +1,33 @@
--- `datetime64_runs::reading::write_instants` meets its contract: `Writing` of crate `runs`.
-use mathlib.Core.Path.{_≡_, sym, ap, _∙_}
-use mathlib.Core.List.{List, []}
-use Prim.Native.Nat.{ℕ, _-_, _<_}
-use native.Mathlib.Omega.{arith}
-use lib.IntN.{ℤ}
-use lib.ListN.{length, getD}
-use mir.Syntax.{w64}
-use mir.Val.{toZ, ofZ}
-use mir.ValLaws.{toZ-ofZ}
-use Rattle.axis_types.specs.Reading.{isRead, instantOf}
-use Rattle.runs.proofs.Passes.{Writing, writing-starts, writing-read, writing-on, writing-ends}
-use Rattle.datetime64_number.specs.Numbers.{readNumber}
-use Rattle.datetime64_runs.specs.Records.{numberIn, recordsIn}
-use Rattle.datetime64_runs.proofs.Cuts.{record-count, record-at, record-ends}
+-- `datetime64_runs::reading::write_instants` meets its contract.
+use mathlib.Core.Path.{subst}
+use Rattle.datetime64_type.specs.Units.{unitRowOf}
+use Rattle.datetime64_number.specs.Conversions.{Reads}
 use borrow.Author.Needs.{needs}
 use Rattle.datetime64_runs.proofs.reading.write_instants.Statement.{statement}
 use Rattle.datetime64_runs.proofs.reading.write_instants.Tie as tie
 
-abbrev Inv-loop : tie.InvT-loop
-Inv-loop bytes destination₀ order unit conversion count i₀ destination i = Writing (λ (r : List ℕ). readNumber unit (numberIn order r)) (recordsIn bytes) destination₀ destination i
+write-by-steps-requires : tie.Need-write-by-steps-requires
+write-by-steps-requires c κs =
+    let k = c .before .before in
+    let s = k .before .before .before in
+    let row = subst (Reads (unitRowOf (s .args .t .unit))) (k .conversion .given .1) (s .pre .0) in
+    (row .0, (row .1, (s .pre .1 .0, s .pre .1 .1)))
 
-abbrev μ-loop : tie.MeasureT-loop
-μ-loop bytes destination₀ order unit conversion count i₀ destination i = count - i
-
-loop-holds : tie.Need-loop-holds Inv-loop μ-loop
-loop-holds c = let s = c .before .before in writing-starts (omega (arith, s .pre .1 .0, record-count (s .args .bytes .now))) (s .pre .1 .1)
-
-number-at-requires : tie.Need-number-at-requires Inv-loop μ-loop
-number-at-requires c κs = let l = c .before in record-ends (l .before .before .before .args .bytes .now) (l .loop .i) (c .loop-test .taken)
-
--- a place of the loop is one of a record
-placed : (b : tie.In-loop Inv-loop μ-loop) → let l = b .before in l .loop .i < length (recordsIn (l .before .before .before .args .bytes .now))
-placed b = let l = b .before in omega (arith, b .loop-test .taken, record-count (l .before .before .before .args .bytes .now))
-
--- and the number that is found there is the record's
-found : (n : tie.After-number-at Inv-loop μ-loop) → let l = n .before .before in
-    let a = l .before .before .before .args in
-    toZ w64 (ofZ w64 (n .number-at .result)) ≡ numberIn (a .t .order) (getD (recordsIn (a .bytes .now)) (l .loop .i) [])
-found n =
-    let l = n .before .before in
-    let a = l .before .before .before .args in
-    toZ-ofZ w64 (n .number-at .result) (record { sfits = n .number-at .ok })
-    ∙ (n .number-at .ensures ∙ ap (numberIn (a .t .order)) (sym (record-at (a .bytes .now) (l .loop .i) (n .before .loop-test .taken))))
-
-instant-read-requires : tie.Need-instant-read-requires Inv-loop μ-loop
-instant-read-requires c κs =
-    let l = c .before .before in
-    let a = l .before .before .before .args in
-    (l .before .reading-of .ensures, ap (λ (m : ℤ). isRead (readNumber (a .t .unit) m)) (found c) ∙ writing-read [] (l .loop .inv) (placed (c .before)))
-
-slice-set-from-destination : tie.Need-slice-set-from-destination Inv-loop μ-loop
-slice-set-from-destination c = let b = c .before .before in omega (arith, placed b, b .before .loop .inv .room, b .before .loop .inv .same-room)
-
-loop-again : tie.Need-loop-again Inv-loop μ-loop
-loop-again c =
-    let n = c .before in
-    let b = n .before in
-    let a = b .before .before .before .before .args in
-    writing-on [] (b .before .loop .inv) (placed b) (record { sfits = c .instant-read .ok }) (c .instant-read .ensures ∙ ap (λ (m : ℤ). instantOf (readNumber (a .t .unit) m)) (found n))
-
-returns : tie.Need-returns Inv-loop μ-loop
-returns c = writing-ends (c .before .loop .inv) (omega (arith, c .loop-test .left, record-count (c .before .before .before .before .args .bytes .now)))
+write-by-ratio-requires : tie.Need-write-by-ratio-requires
+write-by-ratio-requires c κs =
+    let k = c .before .before in
+    let s = k .before .before .before in
+    (subst (Reads (unitRowOf (s .args .t .unit))) (k .conversion2 .given .1) (s .pre .0), (s .pre .1 .0, s .pre .1 .1))
 
 pub write-instants-spec : {M : Type 1} → statement M
 write-instants-spec =
     tie.close
     (tie.spec
-    Inv-loop
-    μ-loop
-    (λ c κs. search needs)
-    loop-holds
-    number-at-requires
-    instant-read-requires
     (λ c. search needs)
-    slice-set-from-destination
+    write-by-steps-requires
     (λ c. search needs)
     (λ c. search needs)
-    loop-again
     (λ c. search needs)
-    returns)
+    write-by-ratio-requires
+    (λ c. search needs)
+    (λ c. search needs))

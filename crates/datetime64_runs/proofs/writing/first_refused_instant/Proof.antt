@@ -15,25 +15,25 @@ use Rattle.datetime64_runs.proofs.writing.first_refused_instant.Stateme
 use Rattle.datetime64_runs.proofs.writing.first_refused_instant.Tie as tie
 
 abbrev Inv-loop : tie.InvT-loop
-Inv-loop instants unit conversion i₀ i = Checking (λ (t : ℤ). offsetRefusal (writeNumber unit t)) instants i
+Inv-loop conversion instants unit i₀ i = Checking (λ (t : ℤ). offsetRefusal (writeNumber unit t)) instants i
 
 abbrev μ-loop : tie.MeasureT-loop
-μ-loop instants unit conversion i₀ i = length instants - i
+μ-loop conversion instants unit i₀ i = length instants - i
 
 loop-holds : tie.Need-loop-holds Inv-loop μ-loop
 loop-holds c = checking-starts
 
 check-instant-requires : tie.Need-check-instant-requires Inv-loop μ-loop
-check-instant-requires c κs = c .before .before .before .writing-of .ensures
+check-instant-requires c κs = c .before .before .before .pre
 
 -- what is refused of the instant at the place
 checked-instant : (k : tie.After-check-instant Inv-loop μ-loop) {q : NumberCheck} → k .check-instant .result ≡ q → let l = k .before .before .before in
-    let a = l .before .before .args in
+    let a = l .before .args in
     offsetRefusal (writeNumber (a .t .unit) (getD (a .instants .now) (l .loop .i) (pos 0))) ≡ refusalIn q
 checked-instant k h =
     let x = k .before in
     let l = x .before .before in
-    let a = l .before .before .args in
+    let a = l .before .args in
     sym
     (sym (ap refusalIn h)
     ∙ (k .check-instant .ensures
@@ -54,7 +54,6 @@ first-refused-instant-spec =
     (tie.spec
     Inv-loop
     μ-loop
-    (λ c κs. search needs)
     loop-holds
     (λ c. search needs)
     (λ c. search needs)

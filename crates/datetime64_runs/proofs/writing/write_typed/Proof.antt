@@ -11,15 +11,15 @@ write-records-requires : tie.Need-write-records-requires
 write-records-requires c κs =
     let m = c .before in
     let o = m .before .before in
-    let a = o .before .before .args in
+    let a = o .before .before .before .args in
     let p = held (a .t) (a .instants .now) (length (a .bytes .now)) (sym (o .check-instants .ensures) ∙ m .enum-told2 .given .1) in
-    (p .fits, p .all-written)
+    (o .before .writing-of .ensures, (p .fits, p .all-written))
 
 returns : tie.Need-returns
 returns c =
     let m = c .before in
     let o = m .before .before in
-    let a = o .before .before .args in
+    let a = o .before .before .before .args in
     let e = o .check-instants .ensures in
     let g = m .enum-told .given .1 in
     (answered e g (length (a .instants .now)) 0 0 0 (c .answer .ensures) refl, left e g _ (a .bytes .now))
@@ -29,7 +29,7 @@ returns-2 c =
     let w = c .before .before .before in
     let m = w .before .before in
     let o = m .before .before in
-    let a = o .before .before .args in
+    let a = o .before .before .before .args in
     let e = o .check-instants .ensures in
     let g = m .enum-told2 .given .1 in
     let n = length (a .instants .now) in
@@ -39,6 +39,7 @@ pub write-typed-spec : {M : Type 1} → statement M
 write-typed-spec =
     tie.close
     (tie.spec
+    (λ c κs. search needs)
     (λ c κs. search needs)
     (λ c. search needs)
     (λ c κs. search needs)

@@ -1,0 +1,56 @@
+-- `datetime64_runs::writing::all_between` meets its contract: proofs/Sure.antt.
+use mathlib.Core.Path.{_≡_, sym, ap, _∙_, subst}
+use Prim.Native.Nat.{ℕ, _-_, _<_}
+use native.Mathlib.Omega.{arith}
+use lib.IntN.{ℤ, pos}
+use lib.ListN.{length, getD}
+use mir.Syntax.{w64}
+use mir.Val.{SFits}
+use mir.ValLaws.{toZ-ofZ}
+use borrow.Author.Tests.{ltb-true}
+use Rattle.signed.specs.Bias.{biased}
+use Rattle.ratio.specs.Multiples.{Between}
+use Rattle.datetime64_runs.proofs.Sure.{Before, joined}
+use borrow.Author.Needs.{needs}
+use Rattle.datetime64_runs.proofs.writing.all_between.Statement.{statement}
+use Rattle.datetime64_runs.proofs.writing.all_between.Tie as tie
+
+abbrev Inv-loop : tie.InvT-loop
+Inv-loop instants bounds strayed₀ i₀ strayed i = strayed < 9223372036854775808 → Before (λ (j : ℕ). SFits w64 (getD instants j (pos 0)) × Between bounds (biased (getD instants j (pos 0)))) i
+
+abbrev μ-loop : tie.MeasureT-loop
+μ-loop instants bounds strayed₀ i₀ strayed i = length instants - i
+
+loop-holds : tie.Need-loop-holds Inv-loop μ-loop
+loop-holds c = λ h j g. absurd (omega arith)
+
+strayed-requires : tie.Need-strayed-requires Inv-loop μ-loop
+strayed-requires c κs = c .before .before .before .pre
+
+loop-again : tie.Need-loop-again Inv-loop μ-loop
+loop-again c =
+    let x = c .before in
+    let l = x .before .before in
+    let a = l .before .args in
+    joined (λ (j : ℕ). SFits w64 (getD (a .instants .now) j (pos 0)) × Between (a .bounds) (biased (getD (a .instants .now) j (pos 0)))) (l .loop .i) (l .loop .strayed) (c .strayed .result) (l .loop .inv)
+    (λ h. (record { sfits = x .strayed-arg .given }, subst (λ (z : ℤ). Between (a .bounds) (biased z)) (toZ-ofZ w64 (getD (a .instants .now) (l .loop .i) (pos 0)) (record { sfits = x .strayed-arg .given })) (c .strayed .ensures h)))
+
+returns : tie.Need-returns Inv-loop μ-loop
+returns c =
+    let l = c .before in
+    λ h j g. l .loop .inv (ltb-true (l .loop .strayed) 9223372036854775808 h) j (omega (arith, c .loop-test .left))
+
+pub all-between-spec : {M : Type 1} → statement M
+all-between-spec =
+    tie.close
+    (tie.spec
+    Inv-loop
+    μ-loop
+    loop-holds
+    (λ c. search needs)
+    (λ c. search needs)
+    strayed-requires
+    (λ c. search needs)
+    (λ c. search needs)
+    loop-again
+    returns)
