@@ -9,6 +9,7 @@ use Rattle.uppinalo.proofs.Derived.{texts, before-texts}
 use Rattle.uppinalo.proofs.Doubles.{doubles}
 use Rattle.uppinalo.proofs.Alone.{runs, past-reference}
 use Rattle.uppinalo.proofs.Range.{in-years}
+use Rattle.uppinalo.proofs.Records as Records
 
 pub demands : Demands
 demands =
@@ -27,4 +28,5 @@ demands =
       runs = runs;
       past-reference = past-reference;
       in-years = in-years;
+      arrays = record { other-identifier = Records.other-identifier; reading = Records.reading; writing = Records.writing };
     }

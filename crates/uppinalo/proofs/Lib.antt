@@ -7,4 +7,5 @@ pub mod Derived
 pub mod Doubles
 pub mod Alone
 pub mod Range
+pub mod Records
 pub mod Demands

@@ -50,6 +50,7 @@ use Rattle.uppinalo.specs.Offsets.{noReading, noOffset, uppinaloReadWhol
 use Rattle.uppinalo.specs.Runs.{noRun, uppinaloReadWholes, uppinaloReadWholesDestination, uppinaloReadDoubles, uppinaloReadDoublesDestination}
 use Rattle.uppinalo.specs.Texts.{ofInstant, ofAxis, noLength, uppinaloReadIso, uppinaloReadUnits, uppinaloWriteIso, uppinaloWriteIsoRoom}
 use Rattle.uppinalo.specs.Datetime64.{uppinaloReadDatetime64, uppinaloReadDatetime64Destination, uppinaloWriteDatetime64, uppinaloWriteDatetime64Records}
+use Rattle.uppinalo.specs.Arrays.{Arrays}
 use Rattle.uppinalo.specs.declared.days.UppinaloDateAnswer.{UppinaloDateAnswer}
 use Rattle.uppinalo.specs.declared.days.UppinaloDayAnswer.{UppinaloDayAnswer}
 use Rattle.uppinalo.specs.declared.days.UppinaloFieldsAnswer.{UppinaloFieldsAnswer}
@@ -293,3 +294,4 @@ pub record Demands : Type 0 where
   pub runs : (x : Axis) → GoodReference x → RunsByOffsets x
   pub past-reference : (x : Axis) → inRange (x .calendar) (x .reference) ≡ false → PastReference x
   pub in-years : GivenInYears
+  pub arrays : Arrays

@@ -1,0 +1,66 @@
+-- The demands of the two calls about datetime64 arrays, whatever they are handed; the last record, `Arrays`, has them all. Document 02, CR 1.
+-- An identifier is a text; where the grammar `identifier` derives it, it names a type t, which is a byte order and a unit.
+-- `readRecord t` and `writeNumber (t .unit)` are the reading and the writing of one record alone.
+use mathlib.Core.Path.{_≡_}
+use mathlib.Core.Bool.{true, false}
+use mathlib.Core.List.{List, [], _∷_, _++_, map}
+use mathlib.Core.Logic.{_↔_}
+use mathlib.Core.Option.{Option, none, some}
+use Prim.Native.Nat.{ℕ, _*_, _%_, _≤_, _<_}
+use lib.IntN.{ℤ}
+use lib.ListN.{length, take, drop}
+use Rattle.refusal.specs.Number.{numberOf}
+use Rattle.refusal.specs.declared.Refusal.{Refusal}
+use Rattle.refusal.specs.declared.Refusal.the-variants.{IllFormed, NoRoom, PartRecord}
+use Rattle.axis_types.specs.Reading.{refusalOf, instantOf}
+use Rattle.run_ends.specs.Each.{Each}
+use Rattle.runs.specs.declared.RunAnswer.{RunAnswer}
+use Rattle.grammar.specs.Grammar.{Derives}
+use Rattle.datetime64_type.specs.Identifier.{identifier}
+use Rattle.datetime64_type.specs.declared.Datetime64Type.{Datetime64Type}
+use Rattle.datetime64_runs.specs.Records.{recordCount, recordsIn}
+use Rattle.datetime64_runs.specs.Runs.{readRecord, instantRefusal, recordsWritten}
+use Rattle.uppinalo.specs.Runs.{noRun}
+use Rattle.uppinalo.specs.Datetime64.{uppinaloReadDatetime64, uppinaloReadDatetime64Destination, uppinaloWriteDatetime64, uppinaloWriteDatetime64Records}
+
+-- the answer to a run of n records, none of which is refused
+abbrev pub allOf : ℕ → RunAnswer
+allOf n = record { number = 0; place = 0; length = n; rounded = 0 }
+
+-- ---- refusals, in their order
+
+-- a text that the grammar does not derive is refused with 3, before all else
+pub record OtherIdentifier (text : List ℕ) : Type 0 where
+  pub reading : (s : List ℕ) (ds : List ℤ) → uppinaloReadDatetime64 text s ds ≡ noRun IllFormed
+  pub writing : (xs : List ℤ) (room : List ℕ) → uppinaloWriteDatetime64 text xs room ≡ noRun IllFormed
+
+-- `refusal` tells why an element is refused alone, or nothing: the first of xs that is refused gives the answer its number and its place
+abbrev pub RefusedFirst : {A : Type 0} → (A → Option Refusal) → List A → RunAnswer → Type 0
+RefusedFirst {A} refusal xs answer =
+    (ys : List A) (y : A) (zs : List A) (r : Refusal) → xs ≡ ys ++ y ∷ zs → Each (λ (x : A). refusal x ≡ none) ys → refusal y ≡ some r → answer ≡ record { number = numberOf r; place = length ys; length = 0; rounded = 0 }
+
+-- the bytes s are read as records of the type t; the destination ds is ds′ afterwards
+pub record ReadByRecords (t : Datetime64Type) (s : List ℕ) (ds : List ℤ) (answer : RunAnswer) (ds′ : List ℤ) : Type 0 where
+  -- bytes that are no whole number of records come first, then too little room
+  pub part : (length s % 8 ≡ 0 → ⊥) → answer ≡ noRun PartRecord
+  pub short : length s % 8 ≡ 0 → length ds < recordCount s → answer ≡ noRun NoRoom
+  -- then the first record that is refused alone
+  pub refused : length s % 8 ≡ 0 → recordCount s ≤ length ds → RefusedFirst (λ (r : List ℕ). refusalOf (readRecord t r)) (recordsIn s) answer
+  -- and where none is, each instant stands at its record's place, and the places beyond are kept
+  pub read-all : length s % 8 ≡ 0 → recordCount s ≤ length ds → Each (λ (r : List ℕ). refusalOf (readRecord t r) ≡ none) (recordsIn s) → (answer ≡ allOf (recordCount s)) × (ds′ ≡ map (λ (r : List ℕ). instantOf (readRecord t r)) (recordsIn s) ++ drop (recordCount s) ds)
+
+-- the instants xs are written as records of the type t; the room is room′ afterwards
+pub record WrittenByInstants (t : Datetime64Type) (xs : List ℤ) (room : List ℕ) (answer : RunAnswer) (room′ : List ℕ) : Type 0 where
+  -- too little room, which is counted in bytes, comes first
+  pub short : length room < 8 * length xs → answer ≡ noRun NoRoom
+  -- then the first instant that is refused alone
+  pub refused : 8 * length xs ≤ length room → RefusedFirst (instantRefusal t) xs answer
+  -- and where none is, the records stand one after another, and the bytes beyond are kept
+  pub written-all : 8 * length xs ≤ length room → Each (λ (x : ℤ). instantRefusal t x ≡ none) xs → (answer ≡ allOf (length xs)) × (room′ ≡ recordsWritten t xs ++ drop (8 * length xs) room)
+
+-- ---- all of them
+
+pub record Arrays : Type 0 where
+  pub other-identifier : (text : List ℕ) → ((t : Datetime64Type) → Derives identifier text t → ⊥) → OtherIdentifier text
+  pub reading : (text : List ℕ) (t : Datetime64Type) → Derives identifier text t → (s : List ℕ) (ds : List ℤ) → ReadByRecords t s ds (uppinaloReadDatetime64 text s ds) (uppinaloReadDatetime64Destination text s ds)
+  pub writing : (text : List ℕ) (t : Datetime64Type) → Derives identifier text t → (xs : List ℤ) (room : List ℕ) → WrittenByInstants t xs room (uppinaloWriteDatetime64 text xs room) (uppinaloWriteDatetime64Records text xs room)
