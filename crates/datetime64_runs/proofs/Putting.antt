@@ -18,7 +18,8 @@ use Rattle.datetime64_runs.specs.Runs.{instantRefusal, recordsWritten}
 use Rattle.datetime64_runs.proofs.Bytes.{record-length}
 
 module _ (type : Datetime64Type) where
-  abbrev written : ℤ → List ℕ
+  -- the record of an instant
+  abbrev pub written : ℤ → List ℕ
   written t = recordOf (type .order) (offsetOf (writeNumber (type .unit) t))
 
   pub written-length : (ts : List ℤ) → length (recordsWritten type ts) ≡ 8 * length ts

@@ -1,11 +1,22 @@
 -- Records of eight bytes, each a signed 64-bit number in two's complement, in either byte order: source document 004.
+use mathlib.Core.Path.{_≡_}
 use mathlib.Core.List.{List, [], _∷_, reverse}
-use Prim.Native.Nat.{ℕ, zero, suc, _+_, _*_, _/_, _%_}
+use Prim.Native.Nat.{ℕ, zero, suc, _+_, _*_, _/_, _%_, _<_}
 use lib.IntN.{ℤ}
 use lib.ListN.{length, take, drop}
 use mir.Syntax.{w64}
 use mir.Val.{toZ, ofZ}
+use Rattle.run_ends.specs.Each.{Each}
 use Rattle.datetime64_type.specs.declared.ByteOrder.{ByteOrder}
+
+-- bytes are numbers below 256
+abbrev pub Bytes : List ℕ → Type 0
+Bytes s = Each (λ (b : ℕ). b < 256) s
+
+-- a record is eight bytes
+pub record IsRecord (r : List ℕ) : Type 0 where
+  pub eight : length r ≡ 8
+  pub bytes : Bytes r
 
 -- the number of bytes that come with the least significant first
 unfoldable pub littleEndian : List ℕ → ℕ
