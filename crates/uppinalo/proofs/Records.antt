@@ -1,13 +1,12 @@
 -- The calls about datetime64 arrays, record by record: what comes first is refused first.
-use mathlib.Core.Path.{_≡_, refl, sym, ap, _∙_, subst}
+use mathlib.Core.Path.{_≡_, sym, ap, _∙_, subst}
 use mathlib.Core.Bool.{true}
 use mathlib.Core.List.{List, [], _∷_, _++_, map}
-use mathlib.Core.Option.{Option, none, some}
+use mathlib.Core.Option.{Option, none}
 use Prim.Native.Nat.{ℕ, _*_}
 use lib.IntN.{ℤ}
 use lib.ListN.{length, drop}
 use Rattle.refusal.specs.declared.Refusal.{Refusal}
-use Rattle.refusal.specs.declared.Refusal.the-variants.{NoRoom, PartRecord}
 use Rattle.axis_types.specs.Reading.{isNone, refusalOf, instantOf}
 use Rattle.run_ends.specs.Each.{Each}
 use Rattle.runs.specs.Run.{firstRefused, overlaid, checkAnswer, chosen}
@@ -17,12 +16,12 @@ use Rattle.grammar.specs.Grammar.{Derives}
 use Rattle.datetime64_type.specs.Identifier.{identifier}
 use Rattle.datetime64_type.specs.declared.Datetime64Type.{Datetime64Type}
 use Rattle.datetime64_type.specs.declared.identifier.TypeAnswer.{TypeAnswer}
-use Rattle.datetime64_type.proofs.Texts.{type-is, type-ill-formed}
+use Rattle.datetime64_type.proofs.Texts.{type-is}
 use Rattle.datetime64_runs.specs.Records.{recordCount, recordsIn}
 use Rattle.datetime64_runs.specs.Runs.{typeNamed, readRecord, recordsCheck, readAnswer, readDestination, instantRefusal, instantsCheck, recordsWritten, writeAnswer, writeRoom}
 use Rattle.datetime64_runs.proofs.Checks.{part-record, short-room, each-record, short-bytes, each-instant}
 use Rattle.datetime64_runs.proofs.Cuts.{record-count}
-use Rattle.uppinalo.specs.Arrays.{OtherIdentifier, RefusedFirst, ReadByRecords, WrittenByInstants}
+use Rattle.uppinalo.specs.Arrays.{RefusedFirst, ReadByRecords, WrittenByInstants}
 
 -- ---- the first that is refused
 
@@ -69,18 +68,12 @@ module _ (t : Datetime64Type) where
 
 -- ---- by the identifier
 
-module _ (text : List ℕ) where
-  pub other-identifier : ((t : Datetime64Type) → Derives identifier text t → ⊥) → OtherIdentifier text
-  other-identifier h =
-      let e = type-ill-formed text .1 h in
-      record { reading = λ s ds. ap (λ (k : TypeAnswer). readAnswer k s ds) e; writing = λ xs room. ap (λ (k : TypeAnswer). writeAnswer k xs room) e }
+module _ (text : List ℕ) (t : Datetime64Type) (d : Derives identifier text t) where
+  named : TypeAnswer.Is t ≡ typeNamed text
+  named = sym (type-is text t .1 d)
 
-  module _ (t : Datetime64Type) (d : Derives identifier text t) where
-    pub named : TypeAnswer.Is t ≡ typeNamed text
-    named = sym (type-is text t .1 d)
+  pub reading : (s : List ℕ) (ds : List ℤ) → ReadByRecords t s ds (readAnswer (typeNamed text) s ds) (readDestination (typeNamed text) s ds)
+  reading s ds = subst (λ (k : TypeAnswer). ReadByRecords t s ds (readAnswer k s ds) (readDestination k s ds)) named (by-records t s ds)
 
-    pub reading : (s : List ℕ) (ds : List ℤ) → ReadByRecords t s ds (readAnswer (typeNamed text) s ds) (readDestination (typeNamed text) s ds)
-    reading s ds = subst (λ (k : TypeAnswer). ReadByRecords t s ds (readAnswer k s ds) (readDestination k s ds)) named (by-records t s ds)
-
-    pub writing : (xs : List ℤ) (room : List ℕ) → WrittenByInstants t xs room (writeAnswer (typeNamed text) xs room) (writeRoom (typeNamed text) xs room)
-    writing xs room = subst (λ (k : TypeAnswer). WrittenByInstants t xs room (writeAnswer k xs room) (writeRoom k xs room)) named (by-instants t xs room)
+  pub writing : (xs : List ℤ) (room : List ℕ) → WrittenByInstants t xs room (writeAnswer (typeNamed text) xs room) (writeRoom (typeNamed text) xs room)
+  writing xs room = subst (λ (k : TypeAnswer). WrittenByInstants t xs room (writeAnswer k xs room) (writeRoom k xs room)) named (by-instants t xs room)

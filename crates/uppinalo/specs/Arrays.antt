@@ -7,18 +7,20 @@ use mathlib.Core.List.{List, [], _∷_, _++_, map}
 use mathlib.Core.Logic.{_↔_}
 use mathlib.Core.Option.{Option, none, some}
 use Prim.Native.Nat.{ℕ, _*_, _%_, _≤_, _<_}
-use lib.IntN.{ℤ}
+use lib.IntN.{ℤ, pos}
 use lib.ListN.{length, take, drop}
 use Rattle.refusal.specs.Number.{numberOf}
 use Rattle.refusal.specs.declared.Refusal.{Refusal}
-use Rattle.refusal.specs.declared.Refusal.the-variants.{IllFormed, NoRoom, PartRecord}
+use Rattle.refusal.specs.declared.Refusal.the-variants.{IllFormed, OutOfRange, NoRoom, PartRecord}
+use Rattle.calendar.specs.declared.Calendar.the-variants.{ProlepticGregorian}
+use Rattle.instant.specs.Instant.{inRange}
 use Rattle.axis_types.specs.Reading.{refusalOf, instantOf}
 use Rattle.run_ends.specs.Each.{Each}
 use Rattle.runs.specs.declared.RunAnswer.{RunAnswer}
 use Rattle.grammar.specs.Grammar.{Derives}
 use Rattle.datetime64_type.specs.Identifier.{identifier}
 use Rattle.datetime64_type.specs.declared.Datetime64Type.{Datetime64Type}
-use Rattle.datetime64_runs.specs.Records.{recordCount, recordsIn}
+use Rattle.datetime64_runs.specs.Records.{Bytes, IsRecord, recordCount, recordsIn}
 use Rattle.datetime64_runs.specs.Runs.{readRecord, instantRefusal, recordsWritten}
 use Rattle.uppinalo.specs.Runs.{noRun}
 use Rattle.uppinalo.specs.Datetime64.{uppinaloReadDatetime64, uppinaloReadDatetime64Destination, uppinaloWriteDatetime64, uppinaloWriteDatetime64Records}
@@ -29,10 +31,16 @@ allOf n = record { number = 0; place = 0; length = n; rounded = 0 }
 
 -- ---- refusals, in their order
 
--- a text that the grammar does not derive is refused with 3, before all else
-pub record OtherIdentifier (text : List ℕ) : Type 0 where
-  pub reading : (s : List ℕ) (ds : List ℤ) → uppinaloReadDatetime64 text s ds ≡ noRun IllFormed
-  pub writing : (xs : List ℤ) (room : List ℕ) → uppinaloWriteDatetime64 text xs room ≡ noRun IllFormed
+-- the grammar does not derive the text
+abbrev pub NamesNone : List ℕ → Type 0
+NamesNone text = (t : Datetime64Type) → Derives identifier text t → ⊥
+
+-- 3 comes before all else, and exactly where the grammar does not derive the text
+pub record IdentifiersByGrammar (text : List ℕ) : Type 0 where
+  pub reading : NamesNone text → (s : List ℕ) (ds : List ℤ) → uppinaloReadDatetime64 text s ds ≡ noRun IllFormed
+  pub writing : NamesNone text → (xs : List ℤ) (room : List ℕ) → uppinaloWriteDatetime64 text xs room ≡ noRun IllFormed
+  pub reading-only : (s : List ℕ) (ds : List ℤ) → Bytes s → uppinaloReadDatetime64 text s ds .number ≡ 3 → NamesNone text
+  pub writing-only : (xs : List ℤ) (room : List ℕ) → uppinaloWriteDatetime64 text xs room .number ≡ 3 → NamesNone text
 
 -- `refusal` tells why an element is refused alone, or nothing: the first of xs that is refused gives the answer its number and its place
 abbrev pub RefusedFirst : {A : Type 0} → (A → Option Refusal) → List A → RunAnswer → Type 0
@@ -58,9 +66,53 @@ pub record WrittenByInstants (t : Datetime64Type) (xs : List ℤ) (room : List �
   -- and where none is, the records stand one after another, and the bytes beyond are kept
   pub written-all : 8 * length xs ≤ length room → Each (λ (x : ℤ). instantRefusal t x ≡ none) xs → (answer ≡ allOf (length xs)) × (room′ ≡ recordsWritten t xs ++ drop (8 * length xs) room)
 
+-- ---- demand 2: what is written reads as it. A record is eight bytes
+
+-- a record is read as the instant x; not-a-time, which is refused, is read as none
+abbrev pub ReadsAs : List ℕ → List ℕ → ℤ → Type 0
+ReadsAs text r x = (uppinaloReadDatetime64 text r (pos 0 ∷ []) .number ≡ 0) × (uppinaloReadDatetime64Destination text r (pos 0 ∷ []) ≡ x ∷ [])
+
+-- the instant x alone is written, into a room of eight bytes, which are room′ afterwards: it is refused as inexact exactly where no record
+-- reads as x, and else what is written reads as x
+pub record WritesRecord (text : List ℕ) (x : ℤ) (answer : RunAnswer) (room′ : List ℕ) : Type 0 where
+  pub inexact : (answer .number ≡ 6) ↔ ((r : List ℕ) → IsRecord r → ReadsAs text r x → ⊥)
+  pub written : (answer .number ≡ 6 → ⊥) → (answer ≡ allOf 1) × IsRecord room′ × ReadsAs text room′ x
+
+pub record RecordsBack (text room : List ℕ) : Type 0 where
+  pub instant : (x : ℤ) → inRange ProlepticGregorian x ≡ true → WritesRecord text x (uppinaloWriteDatetime64 text (x ∷ []) room) (uppinaloWriteDatetime64Records text (x ∷ []) room)
+  pub instant-past : (x : ℤ) → inRange ProlepticGregorian x ≡ false → uppinaloWriteDatetime64 text (x ∷ []) room ≡ noRun OutOfRange
+
+-- ---- demand 2: whole arrays, there and back
+
+-- the instants that stand in the destination after the bytes s were read
+abbrev pub instantsRead : List ℕ → List ℕ → List ℤ → List ℤ
+instantsRead text s ds = take (recordCount s) (uppinaloReadDatetime64Destination text s ds)
+
+-- the bytes that stand in the room after the instants xs were written
+abbrev pub bytesWritten : List ℕ → List ℤ → List ℕ → List ℕ
+bytesWritten text xs room = take (8 * length xs) (uppinaloWriteDatetime64Records text xs room)
+
+-- the instants xs are written as the bytes s, and the bytes beyond are kept
+abbrev pub WrittenAs : List ℕ → List ℤ → List ℕ → List ℕ → Type 0
+WrittenAs text xs s room = (uppinaloWriteDatetime64 text xs room ≡ allOf (recordCount s)) × (uppinaloWriteDatetime64Records text xs room ≡ s ++ drop (length s) room)
+
+-- the bytes s are read as the instants xs, and the places beyond are kept
+abbrev pub ReadAs : List ℕ → List ℕ → List ℤ → List ℤ → Type 0
+ReadAs text s xs ds = (uppinaloReadDatetime64 text s ds ≡ allOf (length xs)) × (uppinaloReadDatetime64Destination text s ds ≡ xs ++ drop (length xs) ds)
+
+pub record ArraysBack (text : List ℕ) : Type 0 where
+  -- bytes that were read are written again from their instants: the same bytes
+  pub read-then-written : (s : List ℕ) (ds : List ℤ) → Bytes s → uppinaloReadDatetime64 text s ds .number ≡ 0 → (room : List ℕ) → length s ≤ length room → WrittenAs text (instantsRead text s ds) s room
+  -- instants that were written are read again from their bytes
+  pub written-then-read : (xs : List ℤ) (room : List ℕ) → uppinaloWriteDatetime64 text xs room .number ≡ 0 → (ds : List ℤ) → length xs ≤ length ds → ReadAs text (bytesWritten text xs room) xs ds
+  -- different bytes that are read give different instants
+  pub one-array : (s s′ : List ℕ) (ds ds′ : List ℤ) → Bytes s → Bytes s′ → uppinaloReadDatetime64 text s ds .number ≡ 0 → uppinaloReadDatetime64 text s′ ds′ .number ≡ 0 → instantsRead text s ds ≡ instantsRead text s′ ds′ → s ≡ s′
+
 -- ---- all of them
 
 pub record Arrays : Type 0 where
-  pub other-identifier : (text : List ℕ) → ((t : Datetime64Type) → Derives identifier text t → ⊥) → OtherIdentifier text
+  pub identifiers : (text : List ℕ) → IdentifiersByGrammar text
   pub reading : (text : List ℕ) (t : Datetime64Type) → Derives identifier text t → (s : List ℕ) (ds : List ℤ) → ReadByRecords t s ds (uppinaloReadDatetime64 text s ds) (uppinaloReadDatetime64Destination text s ds)
   pub writing : (text : List ℕ) (t : Datetime64Type) → Derives identifier text t → (xs : List ℤ) (room : List ℕ) → WrittenByInstants t xs room (uppinaloWriteDatetime64 text xs room) (uppinaloWriteDatetime64Records text xs room)
+  pub records : (text : List ℕ) (t : Datetime64Type) → Derives identifier text t → (room : List ℕ) → length room ≡ 8 → RecordsBack text room
+  pub back : (text : List ℕ) → ArraysBack text
