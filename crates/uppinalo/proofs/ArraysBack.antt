@@ -34,7 +34,7 @@ use Rattle.datetime64_runs.proofs.Putting.{written-length}
 use Rattle.datetime64_runs.proofs.Back.{number-fits, record-is}
 use Rattle.datetime64_runs.proofs.Theorems as Runs
 use Rattle.uppinalo.specs.Runs.{noRun}
-use Rattle.uppinalo.specs.Arrays.{allOf, ReadsAs, WritesRecord, RecordsBack, ArraysBack}
+use Rattle.uppinalo.specs.Arrays.{allOf, RecordReadAs, WritesRecord, RecordsBack, ArraysBack}
 use Rattle.uppinalo.proofs.Records.{reading, writing}
 
 -- ---- one record
@@ -55,13 +55,13 @@ module _ (text : List ℕ) (t : Datetime64Type) (d : Derives identifier text t) 
     fits : recordCount r ≤ 1
     fits = omega (arith, count-one r h)
 
-    reads-as : (x : ℤ) → readRecord t r ≡ Reading.At x true → ReadsAs text r x
+    reads-as : (x : ℤ) → readRecord t r ≡ Reading.At x true → RecordReadAs text r x
     reads-as x e =
         let each : Each (λ (q : List ℕ). refusalOf (readRecord t q) ≡ none) (recordsIn r) = subst (Each (λ (q : List ℕ). refusalOf (readRecord t q) ≡ none)) (sym (one-record r h)) (ap refusalOf e, tt) in
         let all = reading text t d r (pos 0 ∷ []) .read-all whole fits each in
-        (ap (λ (a : RunAnswer). a .number) (all .0), all .1 ∙ ((λ i. map (λ (q : List ℕ). instantOf (readRecord t q)) (one-record r h i) ++ drop (count-one r h i) (pos 0 ∷ [])) ∙ ap (λ (a : Reading). instantOf a ∷ []) e))
+        (all .0 ∙ ap allOf (count-one r h), all .1 ∙ ((λ i. map (λ (q : List ℕ). instantOf (readRecord t q)) (one-record r h i) ++ drop (count-one r h i) (pos 0 ∷ [])) ∙ ap (λ (a : Reading). instantOf a ∷ []) e))
 
-    reads-back : (x : ℤ) → ReadsAs text r x → readRecord t r ≡ Reading.At x true
+    reads-back : (x : ℤ) → RecordReadAs text r x → readRecord t r ≡ Reading.At x true
     reads-back x k = go (readRecord t r) refl
       where
         go : (a : Reading) → readRecord t r ≡ a → a ≡ Reading.At x true
@@ -70,7 +70,7 @@ module _ (text : List ℕ) (t : Datetime64Type) (d : Derives identifier text t) 
             let q = reads-as y (e ∙ ap (Reading.At y) i) .1 in
             let j : y ≡ x = ap (λ (l : List ℤ). getD l 0 (pos 0)) (sym q ∙ k .1) in
             λ n. Reading.At (j n) (i n)
-        go (Reading.Refused q) e = absurd (not-success q (ap (λ (a : RunAnswer). a .number) (sym (reading text t d r (pos 0 ∷ []) .refused whole fits [] r [] q (one-record r h) tt (ap refusalOf e))) ∙ k .0))
+        go (Reading.Refused q) e = absurd (not-success q (ap (λ (a : RunAnswer). a .number) (sym (reading text t d r (pos 0 ∷ []) .refused whole fits [] r [] q (one-record r h) tt (ap refusalOf e)) ∙ k .0)))
 
   module _ (room : List ℕ) (eight : length room ≡ 8) (x : ℤ) where
     alone : 8 * 1 ≤ length room
@@ -92,11 +92,11 @@ module _ (text : List ℕ) (t : Datetime64Type) (d : Derives identifier text t) 
         go (OffsetAnswer.Is n) e =
             let w = written-alone n e in
             let s = record-is (t .order) n in
-            let f : ReadsAs text (recordOf (t .order) n) x = reads-as (recordOf (t .order) n) s x (Runs.written-reads t x n e) in
+            let f : RecordReadAs text (recordOf (t .order) n) x = reads-as (recordOf (t .order) n) s x (Runs.written-reads t x n e) in
             let is = ap (λ (a : RunAnswer). a .number) (w .0) in
             record {
               inexact = ((λ k. absurd (omega (arith, k, is))), λ none. absurd (none (recordOf (t .order) n) s f));
-              written = λ k. (w .0, subst IsRecord (sym (w .1)) s, subst (λ (r : List ℕ). ReadsAs text r x) (sym (w .1)) f);
+              written = λ k. (w .0, subst IsRecord (sym (w .1)) s, subst (λ (r : List ℕ). RecordReadAs text r x) (sym (w .1)) f);
             }
         go (OffsetAnswer.Refused q) e =
             let j : q ≡ Inexact = Numbers.only-inexact (t .unit) x q i e in

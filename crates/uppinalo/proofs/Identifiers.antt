@@ -71,8 +71,10 @@ module _ (t : Datetime64Type) where
     where
       fits : SFits w64 (numberIn (t .order) r)
       fits = number-fits (t .order) r h
+
       refused : readRecord t r ≡ Reading.Refused q
       refused = was-refused (readRecord t r) q e
+
       go : (b : Bool) → isNotATime (numberIn (t .order) r) ≡ b → ⊥
       go true f = let g = Numbers.not-a-time-read (t .unit) (numberIn (t .order) r) fits .1 f in let m : q ≡ NotATime = cc in omega (arith, k, ap numberOf m)
       go false f = unread-not-3 (unitRowOf (t .unit)) (numberIn (t .order) r) q (Numbers.unread (t .unit) (numberIn (t .order) r) q fits f .0 refused) k
@@ -84,6 +86,7 @@ module _ (t : Datetime64Type) where
       each : (rs : List (List ℕ)) → Each IsRecord rs → Each (λ (r : List ℕ). NotThree (refusalOf (readRecord t r))) rs
       each [] h = tt
       each (r ∷ rs) h = (record-not-3 r (h .0), each rs (h .1))
+
       go : (a b : Bool) → checkAnswer (cond a (cond b (Check.Refused NoRoom 0) (checked (readRecord t) (recordsIn s))) (Check.Refused PartRecord 0)) (recordCount s) 0 .number ≡ 3 → ⊥
       go false b e = omega (arith, e)
       go true true e = omega (arith, e)
@@ -94,6 +97,7 @@ module _ (t : Datetime64Type) where
     where
       refused : writeNumber (t .unit) x ≡ OffsetAnswer.Refused r
       refused = was-unwritten (writeNumber (t .unit) x) r e
+
       go : (b : Bool) → inRange ProlepticGregorian x ≡ b → ⊥
       go true i = omega (arith, k, ap numberOf (Numbers.only-inexact (t .unit) x r i refused))
       go false i = let g = Numbers.past-writing (t .unit) x .1 i in let m : r ≡ OutOfRange = cc in omega (arith, k, ap numberOf m)
@@ -105,6 +109,7 @@ module _ (t : Datetime64Type) where
       each : (ys : List ℤ) → Each (λ (x : ℤ). NotThree (instantRefusal t x)) ys
       each [] = tt
       each (y ∷ ys) = (instant-not-3 y, each ys)
+
       go : (b : Bool) → checkAnswer (cond b (Check.Refused NoRoom 0) (firstRefused (instantRefusal t) xs)) (length xs) 0 .number ≡ 3 → ⊥
       go true e = omega (arith, e)
       go false e = first-not-3 (instantRefusal t) xs (length xs) (each xs) e

@@ -40,7 +40,7 @@ use Rattle.datetime64_type.specs.declared.identifier.TypeAnswer.{TypeAnswer}
 use Rattle.datetime64_number.proofs.Theorems as Numbers
 use Rattle.datetime64_runs.specs.Records.{numberIn, recordCount, recordsIn}
 use Rattle.datetime64_runs.specs.Runs.{typeNamed, readRecord, recordsCheck, readAnswer, readDestination}
-use Rattle.datetime64_runs.proofs.Checks as Records
+use Rattle.datetime64_runs.proofs.Checks as Checks
 use Rattle.datetime64_runs.proofs.Cuts.{record-count}
 use Rattle.codes.specs.Codes.{codedAxis, axisCode}
 use Rattle.codes.specs.declared.CodedAxis.{CodedAxis}
@@ -85,10 +85,11 @@ records-inside (TypeAnswer.Is t) s ds h = go (recordsCheck t s (length ds)) refl
   where
     inside : (r : List ℕ) (x : ℤ) (exact : Bool) → readRecord t r ≡ Reading.At x exact → inRange ProlepticGregorian x ≡ true
     inside r x exact e = Numbers.read-inside (t .unit) (numberIn (t .order) r) x exact e
+
     go : (q : Check) → recordsCheck t s (length ds) ≡ q → checkAnswer q (recordCount s) 0 .number ≡ 0 → Each (λ (x : ℤ). inRange ProlepticGregorian x ≡ true) (take (recordCount s) (chosen q (overlaid (readRecord t) (recordsIn s) ds) ds))
     go Check.AllRead e h =
         subst (λ (n : ℕ). Each (λ (x : ℤ). inRange ProlepticGregorian x ≡ true) (take n (overlaid (readRecord t) (recordsIn s) ds))) (record-count s)
-        (overlaid-inside ProlepticGregorian (readRecord t) inside (recordsIn s) ds (Records.passed t s (length ds) e .all-read))
+        (overlaid-inside ProlepticGregorian (readRecord t) inside (recordsIn s) ds (Checks.passed t s (length ds) e .all-read))
     go (Check.Refused r place) e h = absurd (not-success r h)
 
 iso-inside : (name text : List ℕ) (c : Calendar) (t : ℤ) (exact : Bool) → calendarOf name ≡ some c → ofInstant (readIso name text) ≡ readAt t exact → inRange c t ≡ true

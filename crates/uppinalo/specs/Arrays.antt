@@ -1,6 +1,7 @@
 -- The demands of the two calls about datetime64 arrays, whatever they are handed; the last record, `Arrays`, has them all. Document 02, CR 1.
 -- An identifier is a text; where the grammar `identifier` derives it, it names a type t, which is a byte order and a unit.
--- `readRecord t` and `writeNumber (t .unit)` are the reading and the writing of one record alone.
+-- How one record is read alone, and why one instant is not written, is told by `readRecord t` and `instantRefusal t` of crate `datetime64_runs`.
+-- `Bytes s` says that the numbers s are bytes, below 256, as those are that a caller lends; a record is eight of them.
 use mathlib.Core.Path.{_≡_}
 use mathlib.Core.Bool.{true, false}
 use mathlib.Core.List.{List, [], _∷_, _++_, map}
@@ -31,11 +32,11 @@ allOf n = record { number = 0; place = 0; length = n; rounded = 0 }
 
 -- ---- refusals, in their order
 
--- the grammar does not derive the text
+-- the text names no type: the grammar does not derive it
 abbrev pub NamesNone : List ℕ → Type 0
 NamesNone text = (t : Datetime64Type) → Derives identifier text t → ⊥
 
--- 3 comes before all else, and exactly where the grammar does not derive the text
+-- such a text, and no other, is refused with 3, before all else
 pub record IdentifiersByGrammar (text : List ℕ) : Type 0 where
   pub reading : NamesNone text → (s : List ℕ) (ds : List ℤ) → uppinaloReadDatetime64 text s ds ≡ noRun IllFormed
   pub writing : NamesNone text → (xs : List ℤ) (room : List ℕ) → uppinaloWriteDatetime64 text xs room ≡ noRun IllFormed
@@ -66,17 +67,25 @@ pub record WrittenByInstants (t : Datetime64Type) (xs : List ℤ) (room : List �
   -- and where none is, the records stand one after another, and the bytes beyond are kept
   pub written-all : 8 * length xs ≤ length room → Each (λ (x : ℤ). instantRefusal t x ≡ none) xs → (answer ≡ allOf (length xs)) × (room′ ≡ recordsWritten t xs ++ drop (8 * length xs) room)
 
--- ---- demand 2: what is written reads as it. A record is eight bytes
+-- ---- demand 2: what is written reads as it
 
--- a record is read as the instant x; not-a-time, which is refused, is read as none
-abbrev pub ReadsAs : List ℕ → List ℕ → ℤ → Type 0
-ReadsAs text r x = (uppinaloReadDatetime64 text r (pos 0 ∷ []) .number ≡ 0) × (uppinaloReadDatetime64Destination text r (pos 0 ∷ []) ≡ x ∷ [])
+-- the instants xs are written as the bytes s, and the bytes beyond are kept
+abbrev pub WrittenAs : List ℕ → List ℤ → List ℕ → List ℕ → Type 0
+WrittenAs text xs s room = (uppinaloWriteDatetime64 text xs room ≡ allOf (recordCount s)) × (uppinaloWriteDatetime64Records text xs room ≡ s ++ drop (length s) room)
+
+-- the bytes s are read as the instants xs, and the places beyond are kept
+abbrev pub ReadAs : List ℕ → List ℕ → List ℤ → List ℤ → Type 0
+ReadAs text s xs ds = (uppinaloReadDatetime64 text s ds ≡ allOf (length xs)) × (uppinaloReadDatetime64Destination text s ds ≡ xs ++ drop (length xs) ds)
+
+-- the record r alone is read as the instant x; not-a-time, which is refused, is read as none
+abbrev pub RecordReadAs : List ℕ → List ℕ → ℤ → Type 0
+RecordReadAs text r x = ReadAs text r (x ∷ []) (pos 0 ∷ [])
 
 -- the instant x alone is written, into a room of eight bytes, which are room′ afterwards: it is refused as inexact exactly where no record
 -- reads as x, and else what is written reads as x
 pub record WritesRecord (text : List ℕ) (x : ℤ) (answer : RunAnswer) (room′ : List ℕ) : Type 0 where
-  pub inexact : (answer .number ≡ 6) ↔ ((r : List ℕ) → IsRecord r → ReadsAs text r x → ⊥)
-  pub written : (answer .number ≡ 6 → ⊥) → (answer ≡ allOf 1) × IsRecord room′ × ReadsAs text room′ x
+  pub inexact : (answer .number ≡ 6) ↔ ((r : List ℕ) → IsRecord r → RecordReadAs text r x → ⊥)
+  pub written : (answer .number ≡ 6 → ⊥) → (answer ≡ allOf 1) × IsRecord room′ × RecordReadAs text room′ x
 
 pub record RecordsBack (text room : List ℕ) : Type 0 where
   pub instant : (x : ℤ) → inRange ProlepticGregorian x ≡ true → WritesRecord text x (uppinaloWriteDatetime64 text (x ∷ []) room) (uppinaloWriteDatetime64Records text (x ∷ []) room)
@@ -91,14 +100,6 @@ instantsRead text s ds = take (recordCount s) (uppinaloReadDatetime64Destination
 -- the bytes that stand in the room after the instants xs were written
 abbrev pub bytesWritten : List ℕ → List ℤ → List ℕ → List ℕ
 bytesWritten text xs room = take (8 * length xs) (uppinaloWriteDatetime64Records text xs room)
-
--- the instants xs are written as the bytes s, and the bytes beyond are kept
-abbrev pub WrittenAs : List ℕ → List ℤ → List ℕ → List ℕ → Type 0
-WrittenAs text xs s room = (uppinaloWriteDatetime64 text xs room ≡ allOf (recordCount s)) × (uppinaloWriteDatetime64Records text xs room ≡ s ++ drop (length s) room)
-
--- the bytes s are read as the instants xs, and the places beyond are kept
-abbrev pub ReadAs : List ℕ → List ℕ → List ℤ → List ℤ → Type 0
-ReadAs text s xs ds = (uppinaloReadDatetime64 text s ds ≡ allOf (length xs)) × (uppinaloReadDatetime64Destination text s ds ≡ xs ++ drop (length xs) ds)
 
 pub record ArraysBack (text : List ℕ) : Type 0 where
   -- bytes that were read are written again from their instants: the same bytes

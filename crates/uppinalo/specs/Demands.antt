@@ -1,5 +1,6 @@
 -- The three demands, stated of the calls of include/uppinalo.h: of what each call promises (the definitions that have a call's name in the
--- other files of this folder), whatever it is handed. The last record, `Demands`, has them all; proofs/Demands.antt proves it.
+-- other files of this folder), whatever it is handed. The last record, `Demands`, has them all; proofs/Demands.antt proves it. What is
+-- demanded of the calls about datetime64 arrays alone stands in Arrays.antt.
 -- An axis crosses the boundary by its codes: `axisCode x` is what a caller hands in for the axis x, and `calendarCode c` for the calendar c.
 -- `CodesOfAxes` says that these codes name it, and that no others do; `OtherCodes` what calls with codes that name nothing answer.
 use mathlib.Core.Path.{_≡_}
