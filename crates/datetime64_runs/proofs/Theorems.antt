@@ -3,6 +3,7 @@
 --   same-bytes          an instant that is read from a record is written as the same bytes
 --   one-record          two records that are read as one instant are one record
 --   inexact-writing     an instant of the range is refused as inexact just where no record reads as it
+--   records-are         bytes are cut into records
 --   read-over           the instants that were read stand at the start of the destination
 --   read-then-written   bytes that were read are written again from their instants
 --   written-then-read   instants that were written are read again from their bytes
@@ -72,6 +73,11 @@ dropped : (k : ℕ) (s : List ℕ) → Bytes s → Bytes (drop k s)
 dropped zero s h = h
 dropped (suc k) [] h = tt
 dropped (suc k) (b ∷ s) h = dropped k s (h .1)
+
+pub records-are : (n : ℕ) (s : List ℕ) → 8 * n ≤ length s → Bytes s → Each IsRecord (cut n s)
+unfolding cut
+records-are zero s l h = tt
+records-are (suc n) s l h = (record { eight = length-take-le 8 s (omega arith); bytes = taken 8 s h }, records-are n (drop 8 s) (omega (arith, length-drop 8 s)) (dropped 8 s h))
 
 module _ (t : Datetime64Type) where
   abbrev instant : List ℕ → ℤ

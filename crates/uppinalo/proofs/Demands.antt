@@ -9,6 +9,9 @@ use Rattle.uppinalo.proofs.Derived.{texts, before-texts}
 use Rattle.uppinalo.proofs.Doubles.{doubles}
 use Rattle.uppinalo.proofs.Alone.{runs, past-reference}
 use Rattle.uppinalo.proofs.Range.{in-years}
+use Rattle.uppinalo.proofs.Identifiers.{identifiers}
+use Rattle.uppinalo.proofs.Records as Records
+use Rattle.uppinalo.proofs.ArraysBack as Back
 
 pub demands : Demands
 demands =
@@ -27,4 +30,5 @@ demands =
       runs = runs;
       past-reference = past-reference;
       in-years = in-years;
+      arrays = record { identifiers = identifiers; reading = Records.reading; writing = Records.writing; records = Back.records; back = Back.back };
     }

@@ -7,4 +7,7 @@ pub mod Derived
 pub mod Doubles
 pub mod Alone
 pub mod Range
+pub mod Identifiers
+pub mod Records
+pub mod ArraysBack
 pub mod Demands

@@ -8,7 +8,9 @@ use lib.IntN.{ℤ}
 use lib.ListN.{length, take, drop, length-map}
 use lib.Seq.{take-at}
 use Rattle.refusal.proofs.Numbers.{not-success}
+use Rattle.refusal.specs.declared.Refusal.the-variants.{IllFormed}
 use Rattle.calendar.specs.declared.Calendar.{Calendar}
+use Rattle.calendar.specs.declared.Calendar.the-variants.{ProlepticGregorian}
 use Rattle.instant.specs.Instant.{inRange}
 use Rattle.instant.specs.declared.InstantAnswer.{InstantAnswer}
 use Rattle.axis_types.specs.Reading.{isRead, instantOf}
@@ -34,6 +36,12 @@ use Rattle.written_instant.proofs.Order.{written-inside}
 use Rattle.iso_text.specs.Iso.{readIso}
 use Rattle.axis_text.specs.Units.{axisAt, axisOf, readUnits}
 use Rattle.axis_text.specs.declared.AxisAnswer.{AxisAnswer}
+use Rattle.datetime64_type.specs.declared.identifier.TypeAnswer.{TypeAnswer}
+use Rattle.datetime64_number.proofs.Theorems as Numbers
+use Rattle.datetime64_runs.specs.Records.{numberIn, recordCount, recordsIn}
+use Rattle.datetime64_runs.specs.Runs.{typeNamed, readRecord, recordsCheck, readAnswer, readDestination}
+use Rattle.datetime64_runs.proofs.Checks as Checks
+use Rattle.datetime64_runs.proofs.Cuts.{record-count}
 use Rattle.codes.specs.Codes.{codedAxis, axisCode}
 use Rattle.codes.specs.declared.CodedAxis.{CodedAxis}
 use Rattle.codes.proofs.Back.{axis-back}
@@ -52,12 +60,17 @@ module _ {A : Type 0} (c : Calendar) (read : A → Reading) (inside : (y : A) (t
   each-inside [] h = tt
   each-inside (y ∷ xs) h = let r = was-read (read y) (h .0) in (ap (λ (q : Reading). inRange c (instantOf q)) (r .2) ∙ inside y (r .0) (r .1) (r .2), each-inside xs (h .1))
 
-  destination-inside : (k : AxisCheck) (xs : List A) (ds : List ℤ) → runAnswer read k xs ds .number ≡ 0 → Each (λ (t : ℤ). inRange c t ≡ true) (take (length xs) (runWritten read k xs ds))
+  overlaid-inside : (xs : List A) (ds : List ℤ) → checked read xs ≡ Check.AllRead → Each (λ (t : ℤ). inRange c t ≡ true) (take (length xs) (overlaid read xs ds))
   unfolding overlaid
+  overlaid-inside xs ds e =
+      let instants = map (λ (y : A). instantOf (read y)) xs in
+      subst (Each (λ (t : ℤ). inRange c t ≡ true)) (sym (take-at instants (drop (length xs) ds) (length xs) (length-map xs (λ (y : A). instantOf (read y))))) (each-inside xs (each-checked _ xs e))
+
+  destination-inside : (k : AxisCheck) (xs : List A) (ds : List ℤ) → runAnswer read k xs ds .number ≡ 0 → Each (λ (t : ℤ). inRange c t ≡ true) (take (length xs) (runWritten read k xs ds))
   destination-inside k xs ds = go (runCheck read k xs (length ds)) refl
     where
       go : (q : Check) → runCheck read k xs (length ds) ≡ q → checkAnswer q (length xs) (roundedCount read xs) .number ≡ 0 → Each (λ (t : ℤ). inRange c t ≡ true) (take (length xs) (chosen q (overlaid read xs ds) ds))
-      go Check.AllRead e h = subst (Each (λ (t : ℤ). inRange c t ≡ true)) (sym (take-at (map (λ (y : A). instantOf (read y)) xs) (drop (length xs) ds) (length xs) (length-map xs (λ (y : A). instantOf (read y))))) (each-inside xs (each-checked _ xs (passed k (length xs) (length ds) (checked read xs) e .all-read)))
+      go Check.AllRead e h = overlaid-inside xs ds (passed k (length xs) (length ds) (checked read xs) e .all-read)
       go (Check.Refused r place) e h = absurd (not-success r h)
 
 run-inside : {A : Type 0} (x : Axis) (read : Axis → A → Reading) → ((y : A) (t : ℤ) (exact : Bool) → read x y ≡ Reading.At t exact → inRange (x .calendar) t ≡ true) → (xs : List A) (ds : List ℤ) → runOn (codedAxis (axisCode x)) read xs ds .number ≡ 0
@@ -65,6 +78,19 @@ run-inside : {A : Type 0} (x : Axis) (read : Axis → A → Reading) → ((y : A
 run-inside x read inside xs ds =
     subst (λ (k : CodedAxis). runOn k read xs ds .number ≡ 0 → Each (λ (t : ℤ). inRange (x .calendar) t ≡ true) (take (length xs) (destinationOn k read xs ds))) (sym (axis-back x))
     (destination-inside (x .calendar) (read x) inside (axisCheck x) xs ds)
+
+records-inside : (k : TypeAnswer) (s : List ℕ) (ds : List ℤ) → readAnswer k s ds .number ≡ 0 → Each (λ (t : ℤ). inRange ProlepticGregorian t ≡ true) (take (recordCount s) (readDestination k s ds))
+records-inside TypeAnswer.IllFormed s ds h = absurd (not-success IllFormed h)
+records-inside (TypeAnswer.Is t) s ds h = go (recordsCheck t s (length ds)) refl h
+  where
+    inside : (r : List ℕ) (x : ℤ) (exact : Bool) → readRecord t r ≡ Reading.At x exact → inRange ProlepticGregorian x ≡ true
+    inside r x exact e = Numbers.read-inside (t .unit) (numberIn (t .order) r) x exact e
+
+    go : (q : Check) → recordsCheck t s (length ds) ≡ q → checkAnswer q (recordCount s) 0 .number ≡ 0 → Each (λ (x : ℤ). inRange ProlepticGregorian x ≡ true) (take (recordCount s) (chosen q (overlaid (readRecord t) (recordsIn s) ds) ds))
+    go Check.AllRead e h =
+        subst (λ (n : ℕ). Each (λ (x : ℤ). inRange ProlepticGregorian x ≡ true) (take n (overlaid (readRecord t) (recordsIn s) ds))) (record-count s)
+        (overlaid-inside ProlepticGregorian (readRecord t) inside (recordsIn s) ds (Checks.passed t s (length ds) e .all-read))
+    go (Check.Refused r place) e h = absurd (not-success r h)
 
 iso-inside : (name text : List ℕ) (c : Calendar) (t : ℤ) (exact : Bool) → calendarOf name ≡ some c → ofInstant (readIso name text) ≡ readAt t exact → inRange c t ≡ true
 unfolding readIso
@@ -99,6 +125,7 @@ in-years =
       read-double = λ x y t exact. offset-inside x t exact (Offset.Double y);
       read-wholes = λ x. run-inside x readWholeOn (λ n t exact. Axes.read-inside x t exact (Offset.Whole n));
       read-doubles = λ x. run-inside x readDoubleOn (λ y t exact. Axes.read-inside x t exact (Offset.Double y));
+      read-datetime64 = λ text. records-inside (typeNamed text);
       read-iso = iso-inside;
       read-units = units-inside;
     }

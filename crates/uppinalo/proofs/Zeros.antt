@@ -25,6 +25,9 @@ use Rattle.iso_form.specs.declared.LengthAnswer.{LengthAnswer}
 use Rattle.iso_text.specs.Iso.{textOf, isoLength, isoRoom, readIso, writeIso, roomIso}
 use Rattle.axis_text.specs.Units.{readUnits}
 use Rattle.axis_text.specs.declared.AxisAnswer.{AxisAnswer}
+use Rattle.datetime64_type.specs.declared.identifier.TypeAnswer.{TypeAnswer}
+use Rattle.datetime64_runs.specs.Records.{recordCount}
+use Rattle.datetime64_runs.specs.Runs.{typeNamed, readCheck, instantsOver, readAnswer, readDestination, writeCheck, recordsOver, writeAnswer, writeRoom}
 use Rattle.codes.specs.Codes.{codedCalendar, codedAxis}
 use Rattle.codes.specs.declared.CodedCalendar.{CodedCalendar}
 use Rattle.codes.specs.declared.CodedAxis.{CodedAxis}
@@ -62,7 +65,7 @@ of-axis : (a : AxisAnswer) → AxisOrZero (ofAxis a)
 of-axis (AxisAnswer.Is a) h = absurd (h refl)
 of-axis (AxisAnswer.Refused r) h = refl
 
-of-check : (k : Check) (n r : ℕ) (written kept : List ℤ) → RunOrZero (checkAnswer k n r) kept (chosen k written kept)
+of-check : {A : Type 0} (k : Check) (n r : ℕ) (written kept : List A) → RunOrZero (checkAnswer k n r) kept (chosen k written kept)
 of-check Check.AllRead n r written kept h = absurd (h refl)
 of-check (Check.Refused q place) n r written kept h = (refl, refl, refl)
 
@@ -107,6 +110,12 @@ run-zero : {A : Type 0} (k : CodedAxis) (read : Axis → A → Reading) (xs : Li
 run-zero (CodedAxis.Is a) read xs ds = of-check (runCheck (read a) (axisCheck a) xs (length ds)) (length xs) (roundedCount (read a) xs) (overlaid (read a) xs ds) ds
 run-zero (CodedAxis.Refused r) read xs ds = λ h. (refl, refl, refl)
 
+read-zero : (k : TypeAnswer) (s : List ℕ) (ds : List ℤ) → RunOrZero (readAnswer k s ds) ds (readDestination k s ds)
+read-zero k s ds = of-check (readCheck k s (length ds)) (recordCount s) 0 (instantsOver k s ds) ds
+
+write-zero : (k : TypeAnswer) (xs : List ℤ) (room : List ℕ) → RunOrZero (writeAnswer k xs room) room (writeRoom k xs room)
+write-zero k xs room = of-check (writeCheck k xs (length room)) (length xs) 0 (recordsOver k xs room) room
+
 pub refusals : ZeroBesideRefusal
 refusals =
     record {
@@ -122,4 +131,6 @@ refusals =
       read-iso = λ name text. of-instant (readIso name text);
       read-units = λ name text. of-axis (readUnits name text);
       write-iso = λ calendar. length-zero (codedCalendar calendar);
+      read-datetime64 = λ text. read-zero (typeNamed text);
+      write-datetime64 = λ text. write-zero (typeNamed text);
     }

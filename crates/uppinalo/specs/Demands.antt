@@ -1,5 +1,6 @@
 -- The three demands, stated of the calls of include/uppinalo.h: of what each call promises (the definitions that have a call's name in the
--- other files of this folder), whatever it is handed. The last record, `Demands`, has them all; proofs/Demands.antt proves it.
+-- other files of this folder), whatever it is handed. The last record, `Demands`, has them all; proofs/Demands.antt proves it. What is
+-- demanded of the calls about datetime64 arrays alone stands in Arrays.antt.
 -- An axis crosses the boundary by its codes: `axisCode x` is what a caller hands in for the axis x, and `calendarCode c` for the calendar c.
 -- `CodesOfAxes` says that these codes name it, and that no others do; `OtherCodes` what calls with codes that name nothing answer.
 use mathlib.Core.Path.{_≡_}
@@ -18,6 +19,7 @@ use Rattle.refusal.specs.declared.Refusal.{Refusal}
 use Rattle.refusal.specs.declared.Refusal.the-variants.{TextTooLong, UnknownCalendar, IllFormed, NoSuchDate, OutOfRange, NoRoom, NotFinite}
 use Rattle.calendar.specs.Calendar.{date, epoch, exists, DaysOn, dateOf, inYears}
 use Rattle.calendar.specs.declared.Calendar.{Calendar}
+use Rattle.calendar.specs.declared.Calendar.the-variants.{ProlepticGregorian}
 use Rattle.calendar.specs.declared.Date.{Date}
 use Rattle.instant.specs.Instant.{dayOf, timeOf, inRange, fieldsAt, dateIn, isClock}
 use Rattle.instant.specs.declared.Fields.{Fields}
@@ -39,6 +41,7 @@ use Rattle.units_text.specs.declared.Units.{Units}
 use Rattle.written_instant.specs.Instants.{writtenInstant}
 use Rattle.axis_text.specs.Units.{axisOf}
 use Rattle.axis_text.specs.declared.AxisAnswer.{AxisAnswer}
+use Rattle.datetime64_runs.specs.Records.{recordCount}
 use Rattle.codes.specs.Codes.{codedCalendar, codedAxis, calendarCode, axisCode}
 use Rattle.codes.specs.declared.CodedCalendar.{CodedCalendar}
 use Rattle.codes.specs.declared.CodedAxis.{CodedAxis}
@@ -47,6 +50,8 @@ use Rattle.uppinalo.specs.Days.{noDate, noDay, noFields, uppinaloDateOfD
 use Rattle.uppinalo.specs.Offsets.{noReading, noOffset, uppinaloReadWhole, uppinaloReadDouble, uppinaloWriteInstant, uppinaloWriteFields}
 use Rattle.uppinalo.specs.Runs.{noRun, uppinaloReadWholes, uppinaloReadWholesDestination, uppinaloReadDoubles, uppinaloReadDoublesDestination}
 use Rattle.uppinalo.specs.Texts.{ofInstant, ofAxis, noLength, uppinaloReadIso, uppinaloReadUnits, uppinaloWriteIso, uppinaloWriteIsoRoom}
+use Rattle.uppinalo.specs.Datetime64.{uppinaloReadDatetime64, uppinaloReadDatetime64Destination, uppinaloWriteDatetime64, uppinaloWriteDatetime64Records}
+use Rattle.uppinalo.specs.Arrays.{Arrays}
 use Rattle.uppinalo.specs.declared.days.UppinaloDateAnswer.{UppinaloDateAnswer}
 use Rattle.uppinalo.specs.declared.days.UppinaloDayAnswer.{UppinaloDayAnswer}
 use Rattle.uppinalo.specs.declared.days.UppinaloFieldsAnswer.{UppinaloFieldsAnswer}
@@ -115,8 +120,8 @@ AxisOrZero a = IsRefused (a .number) → a .axis ≡ record { calendar = 0; peri
 abbrev pub LengthOrZero : UppinaloLengthAnswer → List ℕ → List ℕ → Type 0
 LengthOrZero a before after = IsRefused (a .number) → (a .length ≡ 0) × (after ≡ before)
 
--- and the destination is kept; of the place speaks `RunByOffsets`
-abbrev pub RunOrZero : RunAnswer → List ℤ → List ℤ → Type 0
+-- and what was lent is kept, a destination of instants or a room of bytes; of the place speak `RunByOffsets` and `RefusedFirst`
+abbrev pub RunOrZero : {A : Type 0} → RunAnswer → List A → List A → Type 0
 RunOrZero a before after = IsRefused (a .number) → (a .length ≡ 0) × (a .rounded ≡ 0) × (after ≡ before)
 
 pub record ZeroBesideRefusal : Type 0 where
@@ -132,6 +137,8 @@ pub record ZeroBesideRefusal : Type 0 where
   pub read-iso : (name text : List ℕ) → ReadingOrZero (uppinaloReadIso name text)
   pub read-units : (name text : List ℕ) → AxisOrZero (uppinaloReadUnits name text)
   pub write-iso : (calendar : ℕ) (t : ℤ) (room : List ℕ) → LengthOrZero (uppinaloWriteIso calendar t room) room (uppinaloWriteIsoRoom calendar t room)
+  pub read-datetime64 : (text s : List ℕ) (ds : List ℤ) → RunOrZero (uppinaloReadDatetime64 text s ds) ds (uppinaloReadDatetime64Destination text s ds)
+  pub write-datetime64 : (text : List ℕ) (xs : List ℤ) (room : List ℕ) → RunOrZero (uppinaloWriteDatetime64 text xs room) room (uppinaloWriteDatetime64Records text xs room)
 
 -- ---- demand 2: dates by the next-day rule
 
@@ -266,6 +273,7 @@ pub record GivenInYears : Type 0 where
   pub read-double : (x : Axis) (y : Float) (t : ℤ) (exact : Bool) → uppinaloReadDouble (axisCode x) y ≡ readAt t exact → inRange (x .calendar) t ≡ true
   pub read-wholes : (x : Axis) (xs ds : List ℤ) → uppinaloReadWholes (axisCode x) xs ds .number ≡ 0 → Each (λ (t : ℤ). inRange (x .calendar) t ≡ true) (take (length xs) (uppinaloReadWholesDestination (axisCode x) xs ds))
   pub read-doubles : (x : Axis) (xs : List Float) (ds : List ℤ) → uppinaloReadDoubles (axisCode x) xs ds .number ≡ 0 → Each (λ (t : ℤ). inRange (x .calendar) t ≡ true) (take (length xs) (uppinaloReadDoublesDestination (axisCode x) xs ds))
+  pub read-datetime64 : (text s : List ℕ) (ds : List ℤ) → uppinaloReadDatetime64 text s ds .number ≡ 0 → Each (λ (t : ℤ). inRange ProlepticGregorian t ≡ true) (take (recordCount s) (uppinaloReadDatetime64Destination text s ds))
   pub read-iso : (name text : List ℕ) (c : Calendar) (t : ℤ) (exact : Bool) → calendarOf name ≡ some c → uppinaloReadIso name text ≡ readAt t exact → inRange c t ≡ true
   -- an axis that is read is the codes of one whose reference is good
   pub read-units : (name text : List ℕ) → uppinaloReadUnits name text .number ≡ 0 → (x : Axis) × (uppinaloReadUnits name text .axis ≡ axisCode x) × GoodReference x
@@ -287,3 +295,4 @@ pub record Demands : Type 0 where
   pub runs : (x : Axis) → GoodReference x → RunsByOffsets x
   pub past-reference : (x : Axis) → inRange (x .calendar) (x .reference) ≡ false → PastReference x
   pub in-years : GivenInYears
+  pub arrays : Arrays

@@ -3,4 +3,5 @@ pub mod Texts
 pub mod Datetime64
 pub mod Offsets
 pub mod Runs
+pub mod Arrays
 pub mod Demands
