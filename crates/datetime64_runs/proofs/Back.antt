@@ -14,7 +14,7 @@ use mir.Syntax.{w64}
 use mir.Val.{Fits, SFits, toZ, ofZ}
 use mir.ValLaws.{toZ-ofZ, ofZ-toZ, ofZ-fits, toZ-fits}
 use Rattle.datetime64_type.specs.declared.ByteOrder.{ByteOrder}
-use Rattle.datetime64_runs.specs.Records.{Bytes, IsRecord, littleEndian, littleBytes, inOrder, numberIn, recordOf}
+use Rattle.datetime64_runs.specs.Records.{Bytes, IsRecord, littleEndian, littleBytes, inOrder, recordNumber, recordOf}
 use Rattle.datetime64_runs.proofs.Bytes.{record-length}
 
 -- ---- the least significant byte first
@@ -67,24 +67,24 @@ module _ (order : ByteOrder) where
       let l : length (inOrder order r) ≡ 8 = order-length order r ∙ h .eight in
       record { fits = subst (λ (k : ℕ). littleEndian (inOrder order r) < 256 ^ k) l (bytes-below (inOrder order r) (in-order order r (h .bytes))) }
 
-  pub number-fits : (r : List ℕ) → IsRecord r → SFits w64 (numberIn order r)
-  unfolding numberIn
+  pub number-fits : (r : List ℕ) → IsRecord r → SFits w64 (recordNumber order r)
+  unfolding recordNumber
   number-fits r h = toZ-fits w64 (littleEndian (inOrder order r)) (word-fits r h)
 
   pub record-is : (n : ℤ) → IsRecord (recordOf order n)
   unfolding recordOf
   record-is n = record { eight = record-length order n; bytes = in-order order (littleBytes 8 (ofZ w64 n)) (little-bytes 8 (ofZ w64 n)) }
 
-  pub record-back : (r : List ℕ) → IsRecord r → recordOf order (numberIn order r) ≡ r
-  unfolding recordOf numberIn
+  pub record-back : (r : List ℕ) → IsRecord r → recordOf order (recordNumber order r) ≡ r
+  unfolding recordOf recordNumber
   record-back r h =
       let s = inOrder order r in
       let l : 8 ≡ length s = sym (order-length order r ∙ h .eight) in
       ap (λ (w : ℕ). inOrder order (littleBytes 8 w)) (ofZ-toZ w64 (littleEndian s) (word-fits r h))
       ∙ (ap (λ (k : ℕ). inOrder order (littleBytes k (littleEndian s))) l ∙ (ap (inOrder order) (bytes-back s (in-order order r (h .bytes))) ∙ order-back order r))
 
-  pub number-back : (n : ℤ) → SFits w64 n → numberIn order (recordOf order n) ≡ n
-  unfolding recordOf numberIn
+  pub number-back : (n : ℤ) → SFits w64 n → recordNumber order (recordOf order n) ≡ n
+  unfolding recordOf recordNumber
   number-back n f =
       ap (λ (s : List ℕ). toZ w64 (littleEndian s)) (order-back order (littleBytes 8 (ofZ w64 n)))
       ∙ (ap (toZ w64) (little-back 8 (ofZ w64 n) (ofZ-fits w64 n f .fits)) ∙ toZ-ofZ w64 n f)

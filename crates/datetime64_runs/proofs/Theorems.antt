@@ -30,7 +30,7 @@ use Rattle.runs.proofs.Passes.{each-read, each-checked}
 use Rattle.datetime64_type.specs.declared.Datetime64Type.{Datetime64Type}
 use Rattle.datetime64_number.specs.Numbers.{readNumber, writeNumber}
 use Rattle.datetime64_number.proofs.Theorems as Number
-use Rattle.datetime64_runs.specs.Records.{Bytes, IsRecord, numberIn, recordOf, cut, recordCount, recordsIn}
+use Rattle.datetime64_runs.specs.Records.{Bytes, IsRecord, recordNumber, recordOf, cut, recordCount, recordsIn}
 use Rattle.datetime64_runs.specs.Runs.{readRecord, recordsCheck, instantRefusal, instantsCheck, recordsWritten}
 use Rattle.datetime64_runs.proofs.Bytes.{record-length}
 use Rattle.datetime64_runs.proofs.Cuts.{record-count}
@@ -47,9 +47,9 @@ module _ (t : Datetime64Type) where
   pub written-reads : (x n : ℤ) → writeNumber (t .unit) x ≡ OffsetAnswer.Is n → readRecord t (recordOf (t .order) n) ≡ Reading.At x true
   written-reads x n e = ap (readNumber (t .unit)) (number-back (t .order) n (Number.written-fits (t .unit) x n e)) ∙ Number.written-reads (t .unit) x n e
 
-  pub same-bytes : (r : List ℕ) (x : ℤ) (exact : Bool) → IsRecord r → readRecord t r ≡ Reading.At x exact → (writeNumber (t .unit) x ≡ OffsetAnswer.Is (numberIn (t .order) r)) × (recordOf (t .order) (offsetOf (writeNumber (t .unit) x)) ≡ r)
+  pub same-bytes : (r : List ℕ) (x : ℤ) (exact : Bool) → IsRecord r → readRecord t r ≡ Reading.At x exact → (writeNumber (t .unit) x ≡ OffsetAnswer.Is (recordNumber (t .order) r)) × (recordOf (t .order) (offsetOf (writeNumber (t .unit) x)) ≡ r)
   same-bytes r x exact h e =
-      let w = Number.read-writes (t .unit) (numberIn (t .order) r) x exact (number-fits (t .order) r h) e in
+      let w = Number.read-writes (t .unit) (recordNumber (t .order) r) x exact (number-fits (t .order) r h) e in
       (w, ap (λ (a : OffsetAnswer). recordOf (t .order) (offsetOf a)) w ∙ record-back (t .order) r h)
 
   pub one-record : (r s : List ℕ) (x : ℤ) (i j : Bool) → IsRecord r → IsRecord s → readRecord t r ≡ Reading.At x i → readRecord t s ≡ Reading.At x j → r ≡ s
@@ -58,7 +58,7 @@ module _ (t : Datetime64Type) where
   pub inexact-writing : (x : ℤ) → inRange ProlepticGregorian x ≡ true → (instantRefusal t x ≡ some Inexact) ↔ ((r : List ℕ) → IsRecord r → readRecord t r ≡ Reading.At x true → ⊥)
   inexact-writing x i =
       let by = Number.inexact-writing (t .unit) x i in (
-        (λ e r h f. by .0 (was-refused (writeNumber (t .unit) x) e) (numberIn (t .order) r) (number-fits (t .order) r h) f),
+        (λ e r h f. by .0 (was-refused (writeNumber (t .unit) x) e) (recordNumber (t .order) r) (number-fits (t .order) r h) f),
         λ none. ap offsetRefusal (by .1 (λ n g f. none (recordOf (t .order) n) (record-is (t .order) n) (ap (readNumber (t .unit)) (number-back (t .order) n g) ∙ f))),
       )
 

@@ -34,8 +34,8 @@ inOrder ByteOrder.Little s = s
 inOrder ByteOrder.Big s = reverse s
 
 -- the signed number of a record, and the record of a signed number: `toZ w64` and `ofZ w64` are two's complement in 64 bits
-unfoldable pub numberIn : ByteOrder → List ℕ → ℤ
-numberIn order bytes = toZ w64 (littleEndian (inOrder order bytes))
+unfoldable pub recordNumber : ByteOrder → List ℕ → ℤ
+recordNumber order bytes = toZ w64 (littleEndian (inOrder order bytes))
 
 unfoldable pub recordOf : ByteOrder → ℤ → List ℕ
 recordOf order n = inOrder order (littleBytes 8 (ofZ w64 n))
@@ -47,7 +47,7 @@ cut (suc n) s = take 8 s ∷ cut n (drop 8 s)
 
 -- the number of the record at place i
 abbrev pub numberAt : ByteOrder → List ℕ → ℕ → ℤ
-numberAt order s i = numberIn order (take 8 (drop (8 * i) s))
+numberAt order s i = recordNumber order (take 8 (drop (8 * i) s))
 
 abbrev pub recordCount : List ℕ → ℕ
 recordCount s = length s / 8

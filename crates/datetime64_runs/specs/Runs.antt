@@ -19,7 +19,7 @@ use Rattle.datetime64_type.specs.Identifier.{identifier, typeAnswer}
 use Rattle.datetime64_type.specs.declared.Datetime64Type.{Datetime64Type}
 use Rattle.datetime64_type.specs.declared.identifier.TypeAnswer.{TypeAnswer}
 use Rattle.datetime64_number.specs.Numbers.{readNumber, writeNumber}
-use Rattle.datetime64_runs.specs.Records.{numberIn, recordOf, recordCount, recordsIn}
+use Rattle.datetime64_runs.specs.Records.{recordNumber, recordOf, recordCount, recordsIn}
 
 -- the type that an identifier names
 abbrev pub typeNamed : List ℕ → TypeAnswer
@@ -29,7 +29,7 @@ typeNamed text = typeAnswer (read identifier text)
 
 -- one record
 abbrev pub readRecord : Datetime64Type → List ℕ → Reading
-readRecord t bytes = readNumber (t .unit) (numberIn (t .order) bytes)
+readRecord t bytes = readNumber (t .unit) (recordNumber (t .order) bytes)
 
 -- refused for bytes that are no whole number of records, then for the room, then as the first record that is refused
 unfoldable pub recordsCheck : Datetime64Type → List ℕ → ℕ → Check

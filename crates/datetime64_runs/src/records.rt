@@ -5,7 +5,7 @@ ghost use lib.ListN.{length, take, drop, getD};
 ghost use mir.Syntax.{w64};
 ghost use mir.Val.{toZ, ofZ};
 ghost use mathlib.Core.List.{[], _∷_, _++_, reverse};
-ghost use Rattle.datetime64_runs.specs.Records.{littleEndian, littleBytes, inOrder, numberIn, numberAt, recordOf};
+ghost use Rattle.datetime64_runs.specs.Records.{littleEndian, littleBytes, inOrder, recordNumber, numberAt, recordOf};
 use datetime64_type::ByteOrder;
 
 // The number of eight bytes.
@@ -103,7 +103,7 @@ fn bits_of(n: i64) -> u64
 // The number of a record.
 fn number_in(order: ByteOrder, r: &[u8]) -> i64
     requires { ⌜ length (now r) ≡ 8 ⌝ }
-    ensures { λ n. ⌜ n ≡ numberIn order (now (r .entry)) ⌝ }
+    ensures { λ n. ⌜ n ≡ recordNumber order (now (r .entry)) ⌝ }
 {
     signed_of(in_order(order, little_endian(r)))
 }

@@ -1,7 +1,7 @@
 -- The place of a number among the multiples.
 use mathlib.Core.Path.{_≡_, refl, sym, ap, _∙_, subst}
-use Prim.Native.Nat.{ℕ, _+_, _-_, _*_, _/_, _%_, _≤_, _<_, _^_}
-use native.Mathlib.Nat.{add-mul, mul-assoc, mul-le-mul-right, le-mul-of-pos-right}
+use Prim.Native.Nat.{ℕ, _+_, _-_, _*_, _%_, _≤_, _<_, _^_}
+use native.Mathlib.Nat.{add-mul, mul-le-mul-right, le-mul-of-pos-right}
 use native.Mathlib.Omega.{arith}
 use lib.Bits.{bitOr, or-add-and, and-le-l, and-le-r}
 use Rattle.ratio.specs.Multiples.{Place, Steps, reciprocalOf, IsRatio, Good, IsMultiple}

@@ -27,7 +27,7 @@ use Rattle.datetime64_type.specs.declared.Datetime64Type.{Datetime64Type}
 use Rattle.datetime64_type.specs.declared.identifier.TypeAnswer.{TypeAnswer}
 use Rattle.datetime64_number.specs.Numbers.{writeNumber}
 use Rattle.datetime64_number.proofs.Theorems as Numbers
-use Rattle.datetime64_runs.specs.Records.{Bytes, IsRecord, numberIn, recordOf, cut, recordCount, recordsIn}
+use Rattle.datetime64_runs.specs.Records.{Bytes, IsRecord, recordNumber, recordOf, cut, recordCount, recordsIn}
 use Rattle.datetime64_runs.specs.Runs.{typeNamed, readRecord, recordsCheck, readAnswer, readDestination, instantsCheck, recordsWritten, writeAnswer, writeRoom}
 use Rattle.datetime64_runs.proofs.Cuts.{record-count}
 use Rattle.datetime64_runs.proofs.Putting.{written-length}
@@ -66,7 +66,7 @@ module _ (text : List ℕ) (t : Datetime64Type) (d : Derives identifier text t) 
       where
         go : (a : Reading) → readRecord t r ≡ a → a ≡ Reading.At x true
         go (Reading.At y exact) e =
-            let i = Numbers.read-exact (t .unit) (numberIn (t .order) r) y exact (number-fits (t .order) r h) e in
+            let i = Numbers.read-exact (t .unit) (recordNumber (t .order) r) y exact (number-fits (t .order) r h) e in
             let q = reads-as y (e ∙ ap (Reading.At y) i) .1 in
             let j : y ≡ x = ap (λ (l : List ℤ). getD l 0 (pos 0)) (sym q ∙ k .1) in
             λ n. Reading.At (j n) (i n)

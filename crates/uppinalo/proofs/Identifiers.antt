@@ -30,7 +30,7 @@ use Rattle.datetime64_type.proofs.Texts.{type-is, type-ill-formed}
 use Rattle.datetime64_number.specs.Numbers.{isNotATime, writeNumber}
 use Rattle.datetime64_number.proofs.ByRow.{Unread}
 use Rattle.datetime64_number.proofs.Theorems as Numbers
-use Rattle.datetime64_runs.specs.Records.{Bytes, IsRecord, numberIn, recordCount, recordsIn}
+use Rattle.datetime64_runs.specs.Records.{Bytes, IsRecord, recordNumber, recordCount, recordsIn}
 use Rattle.datetime64_runs.specs.Runs.{readRecord, recordsCheck, readAnswer, instantRefusal, instantsCheck, writeAnswer}
 use Rattle.datetime64_runs.proofs.Back.{number-fits}
 use Rattle.datetime64_runs.proofs.Theorems.{records-are}
@@ -67,17 +67,17 @@ unread-not-3 (UnitRow.Fraction k) n r u e = omega (arith, e, ap numberOf (u .0))
 
 module _ (t : Datetime64Type) where
   record-not-3 : (r : List ℕ) → IsRecord r → NotThree (refusalOf (readRecord t r))
-  record-not-3 r h q e k = go (isNotATime (numberIn (t .order) r)) refl
+  record-not-3 r h q e k = go (isNotATime (recordNumber (t .order) r)) refl
     where
-      fits : SFits w64 (numberIn (t .order) r)
+      fits : SFits w64 (recordNumber (t .order) r)
       fits = number-fits (t .order) r h
 
       refused : readRecord t r ≡ Reading.Refused q
       refused = was-refused (readRecord t r) q e
 
-      go : (b : Bool) → isNotATime (numberIn (t .order) r) ≡ b → ⊥
-      go true f = let g = Numbers.not-a-time-read (t .unit) (numberIn (t .order) r) fits .1 f in let m : q ≡ NotATime = cc in omega (arith, k, ap numberOf m)
-      go false f = unread-not-3 (unitRowOf (t .unit)) (numberIn (t .order) r) q (Numbers.unread (t .unit) (numberIn (t .order) r) q fits f .0 refused) k
+      go : (b : Bool) → isNotATime (recordNumber (t .order) r) ≡ b → ⊥
+      go true f = let g = Numbers.not-a-time-read (t .unit) (recordNumber (t .order) r) fits .1 f in let m : q ≡ NotATime = cc in omega (arith, k, ap numberOf m)
+      go false f = unread-not-3 (unitRowOf (t .unit)) (recordNumber (t .order) r) q (Numbers.unread (t .unit) (recordNumber (t .order) r) q fits f .0 refused) k
 
   records-not-3 : (s : List ℕ) → Bytes s → (room : ℕ) → checkAnswer (recordsCheck t s room) (recordCount s) 0 .number ≡ 3 → ⊥
   unfolding recordsCheck

@@ -38,7 +38,7 @@ use Rattle.axis_text.specs.Units.{axisAt, axisOf, readUnits}
 use Rattle.axis_text.specs.declared.AxisAnswer.{AxisAnswer}
 use Rattle.datetime64_type.specs.declared.identifier.TypeAnswer.{TypeAnswer}
 use Rattle.datetime64_number.proofs.Theorems as Numbers
-use Rattle.datetime64_runs.specs.Records.{numberIn, recordCount, recordsIn}
+use Rattle.datetime64_runs.specs.Records.{recordNumber, recordCount, recordsIn}
 use Rattle.datetime64_runs.specs.Runs.{typeNamed, readRecord, recordsCheck, readAnswer, readDestination}
 use Rattle.datetime64_runs.proofs.Checks as Checks
 use Rattle.datetime64_runs.proofs.Cuts.{record-count}
@@ -84,7 +84,7 @@ records-inside TypeAnswer.IllFormed s ds h = absurd (not-success IllFormed h)
 records-inside (TypeAnswer.Is t) s ds h = go (recordsCheck t s (length ds)) refl h
   where
     inside : (r : List ℕ) (x : ℤ) (exact : Bool) → readRecord t r ≡ Reading.At x exact → inRange ProlepticGregorian x ≡ true
-    inside r x exact e = Numbers.read-inside (t .unit) (numberIn (t .order) r) x exact e
+    inside r x exact e = Numbers.read-inside (t .unit) (recordNumber (t .order) r) x exact e
 
     go : (q : Check) → recordsCheck t s (length ds) ≡ q → checkAnswer q (recordCount s) 0 .number ≡ 0 → Each (λ (x : ℤ). inRange ProlepticGregorian x ≡ true) (take (recordCount s) (chosen q (overlaid (readRecord t) (recordsIn s) ds) ds))
     go Check.AllRead e h =

@@ -2,17 +2,16 @@
 use mathlib.Core.Path.{_≡_, sym, ap, _∙_}
 use Prim.Native.Nat.{_<_}
 use native.Mathlib.Omega.{arith}
-use lib.IntN.{ℤ, pos}
+use lib.IntN.{pos}
 use mir.Syntax.{w64}
 use mir.ValLaws.{toZ-ofZ}
 use borrow.Author.Needs.{needs}
 use Rattle.signed.specs.Bias.{biased}
 use Rattle.calendar.specs.declared.Calendar.the-variants.{ProlepticGregorian}
-use Rattle.axis_types.specs.Reading.{refusalOf, isRead}
-use Rattle.axis_types.proofs.Answers.{was-read}
-use Rattle.calendar_axis.specs.Steps.{readFrom, readSteps}
+use Rattle.axis_types.specs.Reading.{refusalOf}
+use Rattle.calendar_axis.specs.Steps.{readFrom}
 use Rattle.calendar_axis.proofs.Demands.{start-time, from-start}
-use Rattle.datetime64_number.specs.Numbers.{isNotATime, readNumber}
+use Rattle.datetime64_number.specs.Numbers.{readNumber}
 use Rattle.datetime64_number.proofs.Ratios.{has-time}
 use Rattle.datetime64_number.proofs.Units.{not-a-time, read-steps}
 use Rattle.datetime64_number.proofs.check_steps.Statement.{statement}

@@ -10,7 +10,6 @@ use Rattle.calendar_axis.specs.Steps.{readFrom}
 use Rattle.calendar_axis.proofs.Demands.{start-time, from-start}
 use Rattle.datetime64_number.specs.Numbers.{readNumber}
 use Rattle.datetime64_number.proofs.Units.{read-time, read-steps}
-use borrow.Author.Needs.{needs}
 use Rattle.datetime64_number.proofs.instant_by_steps.Statement.{statement}
 use Rattle.datetime64_number.proofs.instant_by_steps.Tie as tie
 

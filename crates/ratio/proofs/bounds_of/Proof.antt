@@ -1,5 +1,5 @@
 -- `ratio::bounds_of` meets its contract.
-use mathlib.Core.Path.{_≡_, sym, subst}
+use mathlib.Core.Path.{sym, subst}
 use Prim.Native.Nat.{ℕ, _+_, _-_}
 use native.Mathlib.Omega.{arith}
 use Rattle.ratio.specs.Multiples.{Place}

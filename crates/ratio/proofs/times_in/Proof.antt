@@ -1,5 +1,5 @@
 -- `ratio::times_in` meets its contract.
-use mathlib.Core.Path.{_≡_, sym, ap, _∙_, subst}
+use mathlib.Core.Path.{_≡_, ap, _∙_, subst}
 use Prim.Native.Nat.{ℕ, _+_, _*_, _/_, _≤_, _<_, _^_}
 use native.Mathlib.Nat.{mul-one}
 use native.Mathlib.Omega.{arith}

@@ -1,7 +1,6 @@
 -- `datetime64_runs::reading::check_records` meets its contract: proofs/Checks.antt.
 use mathlib.Core.Path.{sym, _∙_}
 use Rattle.datetime64_runs.proofs.Checks.{part-record, short-room, each-record}
-use borrow.Author.Needs.{needs}
 use Rattle.datetime64_runs.proofs.reading.check_records.Statement.{statement}
 use Rattle.datetime64_runs.proofs.reading.check_records.Tie as tie
 

@@ -1,28 +1,25 @@
 -- `datetime64_runs::reading::first_refused_record` meets its contract: `Checking` of crate `runs`.
-use mathlib.Core.Path.{_≡_, refl, sym, ap, _∙_}
-use mathlib.Core.List.{List, [], _∷_}
-use mathlib.Core.Option.{Option, none, some}
+use mathlib.Core.Path.{_≡_, sym, ap, _∙_}
+use mathlib.Core.List.{List, []}
 use Prim.Native.Nat.{ℕ, _-_, _<_}
 use native.Mathlib.Omega.{arith}
 use lib.IntN.{ℤ}
 use lib.ListN.{length, getD}
 use mir.Syntax.{w64}
 use mir.ValLaws.{toZ-ofZ}
-use Rattle.refusal.specs.declared.Refusal.{Refusal}
 use Rattle.axis_types.specs.Reading.{refusalOf}
 use Rattle.runs.proofs.Passes.{Checking, checking-starts, checking-on, checking-stops, checking-ends}
 use Rattle.datetime64_number.specs.Numbers.{readNumber}
 use Rattle.datetime64_number.specs.Conversions.{refusalIn}
 use Rattle.datetime64_number.specs.declared.NumberCheck.{NumberCheck}
-use Rattle.datetime64_runs.specs.Records.{numberIn, recordsIn, recordCount}
-use Rattle.datetime64_runs.specs.Runs.{readRecord}
+use Rattle.datetime64_runs.specs.Records.{recordNumber, recordsIn}
 use Rattle.datetime64_runs.proofs.Cuts.{record-count, record-at, record-ends}
 use borrow.Author.Needs.{needs}
 use Rattle.datetime64_runs.proofs.reading.first_refused_record.Statement.{statement}
 use Rattle.datetime64_runs.proofs.reading.first_refused_record.Tie as tie
 
 abbrev Inv-loop : tie.InvT-loop
-Inv-loop conversion bytes order unit count i₀ i = Checking (λ (r : List ℕ). refusalOf (readNumber unit (numberIn order r))) (recordsIn bytes) i
+Inv-loop conversion bytes order unit count i₀ i = Checking (λ (r : List ℕ). refusalOf (readNumber unit (recordNumber order r))) (recordsIn bytes) i
 
 abbrev μ-loop : tie.MeasureT-loop
 μ-loop conversion bytes order unit count i₀ i = count - i
@@ -39,7 +36,7 @@ check-number-requires c κs = c .before .before .before .before .pre .1
 -- what is refused of the record at the place
 checked-record : (k : tie.After-check-number Inv-loop μ-loop) {q : NumberCheck} → k .check-number .result ≡ q → let l = k .before .before .before in
     let a = l .before .before .args in
-    refusalOf (readNumber (a .t .unit) (numberIn (a .t .order) (getD (recordsIn (a .bytes .now)) (l .loop .i) []))) ≡ refusalIn q
+    refusalOf (readNumber (a .t .unit) (recordNumber (a .t .order) (getD (recordsIn (a .bytes .now)) (l .loop .i) []))) ≡ refusalIn q
 checked-record k h =
     let n = k .before in
     let l = n .before .before in
@@ -49,7 +46,7 @@ checked-record k h =
     (sym (ap refusalIn h)
     ∙ (k .check-number .ensures
     ∙ ap (λ (m : ℤ). refusalOf (readNumber (a .t .unit) m))
-    (toZ-ofZ w64 z (record { sfits = n .number-at .ok }) ∙ (n .number-at .ensures ∙ ap (numberIn (a .t .order)) (sym (record-at (a .bytes .now) (l .loop .i) (n .before .loop-test .taken)))))))
+    (toZ-ofZ w64 z (record { sfits = n .number-at .ok }) ∙ (n .number-at .ensures ∙ ap (recordNumber (a .t .order)) (sym (record-at (a .bytes .now) (l .loop .i) (n .before .loop-test .taken)))))))
 
 -- a place of the loop is one of a record
 placed : (b : tie.In-loop Inv-loop μ-loop) → let l = b .before in l .loop .i < length (recordsIn (l .before .before .args .bytes .now))

@@ -1,25 +1,19 @@
 -- `datetime64_runs::reading::surely_read` meets its contract: proofs/Sure.antt.
-use mathlib.Core.Path.{_≡_, sym, ap, _∙_, subst}
+use mathlib.Core.Path.{_≡_, ap, _∙_, subst}
 use mathlib.Core.List.{List, []}
 use mathlib.Core.Option.{none}
 use Prim.Native.Nat.{ℕ, _<_}
-use native.Mathlib.Omega.{arith}
-use lib.IntN.{ℤ}
-use mir.Syntax.{w64}
-use mir.Val.{SFits}
 use Rattle.signed.specs.Bias.{biased}
 use Rattle.axis_types.specs.Reading.{refusalOf}
 use Rattle.runs.specs.Run.{checked}
 use Rattle.runs.specs.declared.Check.{Check}
-use Rattle.ratio.specs.Multiples.{IsMultiple}
 use Rattle.ratio.specs.declared.Ratio.{Ratio}
 use Rattle.datetime64_type.specs.Units.{unitRowOf}
 use Rattle.datetime64_type.specs.declared.Datetime64Type.{Datetime64Type}
 use Rattle.datetime64_number.specs.Numbers.{readNumber}
 use Rattle.datetime64_number.specs.Conversions.{Reads, ReadsByRatio}
-use Rattle.datetime64_number.specs.declared.Conversion.{Conversion}
 use Rattle.datetime64_number.proofs.Units.{reads-good, near-good, multiple-good}
-use Rattle.datetime64_runs.specs.Records.{numberAt, numberIn, recordsIn, recordCount}
+use Rattle.datetime64_runs.specs.Records.{numberAt, recordsIn, recordCount}
 use Rattle.datetime64_runs.specs.Runs.{readRecord}
 use Rattle.datetime64_runs.proofs.Cuts.{record-count, record-at}
 use Rattle.datetime64_runs.proofs.Sure.{Before, none-refused}

@@ -11,14 +11,14 @@ use mir.ValLaws.{toZ-ofZ}
 use Rattle.axis_types.specs.Reading.{isRead, instantOf}
 use Rattle.runs.proofs.Passes.{Writing, writing-starts, writing-read, writing-on, writing-ends}
 use Rattle.datetime64_number.specs.Numbers.{readNumber}
-use Rattle.datetime64_runs.specs.Records.{numberIn, recordsIn}
+use Rattle.datetime64_runs.specs.Records.{recordNumber, recordsIn}
 use Rattle.datetime64_runs.proofs.Cuts.{record-count, record-at, record-ends}
 use borrow.Author.Needs.{needs}
 use Rattle.datetime64_runs.proofs.reading.write_by_steps.Statement.{statement}
 use Rattle.datetime64_runs.proofs.reading.write_by_steps.Tie as tie
 
 abbrev Inv-loop : tie.InvT-loop
-Inv-loop part start bytes destination₀ order unit count i₀ destination i = Writing (λ (r : List ℕ). readNumber unit (numberIn order r)) (recordsIn bytes) destination₀ destination i
+Inv-loop part start bytes destination₀ order unit count i₀ destination i = Writing (λ (r : List ℕ). readNumber unit (recordNumber order r)) (recordsIn bytes) destination₀ destination i
 
 abbrev μ-loop : tie.MeasureT-loop
 μ-loop part start bytes destination₀ order unit count i₀ destination i = count - i
@@ -36,12 +36,12 @@ placed b = let l = b .before in omega (arith, b .loop-test .taken, record-count 
 -- and the number that is found there is the record's
 found : (n : tie.After-number-at Inv-loop μ-loop) → let l = n .before .before in
     let a = l .before .before .args in
-    toZ w64 (ofZ w64 (n .number-at .result)) ≡ numberIn (a .t .order) (getD (recordsIn (a .bytes .now)) (l .loop .i) [])
+    toZ w64 (ofZ w64 (n .number-at .result)) ≡ recordNumber (a .t .order) (getD (recordsIn (a .bytes .now)) (l .loop .i) [])
 found n =
     let l = n .before .before in
     let a = l .before .before .args in
     toZ-ofZ w64 (n .number-at .result) (record { sfits = n .number-at .ok })
-    ∙ (n .number-at .ensures ∙ ap (numberIn (a .t .order)) (sym (record-at (a .bytes .now) (l .loop .i) (n .before .loop-test .taken))))
+    ∙ (n .number-at .ensures ∙ ap (recordNumber (a .t .order)) (sym (record-at (a .bytes .now) (l .loop .i) (n .before .loop-test .taken))))
 
 instant-by-steps-requires : tie.Need-instant-by-steps-requires Inv-loop μ-loop
 instant-by-steps-requires c κs =

@@ -1,5 +1,5 @@
 -- `datetime64_runs::records::in_order` meets its contract.
-use mathlib.Core.Path.{_≡_, sym, ap, _∙_}
+use mathlib.Core.Path.{sym, ap, _∙_}
 use borrow.Author.Needs.{needs}
 use Rattle.datetime64_type.specs.declared.ByteOrder.{ByteOrder}
 use Rattle.datetime64_runs.specs.Records.{littleEndian, littleBytes, inOrder}

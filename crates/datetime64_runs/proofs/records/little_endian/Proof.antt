@@ -1,6 +1,6 @@
 -- `datetime64_runs::records::little_endian` meets its contract.
-use mathlib.Core.Path.{_≡_, sym, ap, _∙_}
-use mathlib.Core.List.{List, [], _∷_, reverse}
+use mathlib.Core.Path.{sym, ap, _∙_}
+use mathlib.Core.List.{List, [], _∷_}
 use Prim.Native.Nat.{ℕ}
 use borrow.Author.Needs.{needs}
 use Rattle.datetime64_runs.specs.Records.{littleEndian}

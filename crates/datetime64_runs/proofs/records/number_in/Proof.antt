@@ -3,18 +3,17 @@ use mathlib.Core.Path.{_≡_, sym, ap, _∙_}
 use mathlib.Core.List.{List}
 use Prim.Native.Nat.{ℕ}
 use native.Mathlib.Omega.{arith}
-use lib.ListN.{length}
 use mir.Syntax.{w64}
 use mir.Val.{toZ}
 use mir.ValLaws.{toZ-ofZ}
 use borrow.Author.Needs.{needs}
-use Rattle.datetime64_runs.specs.Records.{littleEndian, littleBytes, inOrder, numberIn}
+use Rattle.datetime64_runs.specs.Records.{littleEndian, littleBytes, inOrder, recordNumber}
 use Rattle.datetime64_runs.proofs.Bytes.{bytes-back}
 use Rattle.datetime64_runs.proofs.records.number_in.Statement.{statement}
 use Rattle.datetime64_runs.proofs.records.number_in.Tie as tie
 
 returns : tie.Need-returns
-unfolding numberIn
+unfolding recordNumber
 returns c =
     let o = c .before in
     let l = o .before in

@@ -1,12 +1,11 @@
 -- `datetime64_runs::records::record_of` meets its contract.
-use mathlib.Core.Path.{_≡_, ap, _∙_}
-use mathlib.Core.List.{List}
+use mathlib.Core.Path.{ap, _∙_}
 use Prim.Native.Nat.{ℕ}
 use mir.Syntax.{w64}
 use mir.Val.{ofZ}
 use mir.ValLaws.{toZ-ofZ}
 use borrow.Author.Needs.{needs}
-use Rattle.datetime64_runs.specs.Records.{littleEndian, littleBytes, inOrder, recordOf}
+use Rattle.datetime64_runs.specs.Records.{littleBytes, inOrder, recordOf}
 use Rattle.datetime64_runs.proofs.Bytes.{ordered-back}
 use Rattle.datetime64_runs.proofs.records.record_of.Statement.{statement}
 use Rattle.datetime64_runs.proofs.records.record_of.Tie as tie

@@ -1,5 +1,5 @@
 -- `datetime64_runs::writing::all_between` meets its contract: proofs/Sure.antt.
-use mathlib.Core.Path.{_≡_, sym, ap, _∙_, subst}
+use mathlib.Core.Path.{subst}
 use Prim.Native.Nat.{ℕ, _-_, _<_}
 use native.Mathlib.Omega.{arith}
 use lib.IntN.{ℤ, pos}

@@ -1,5 +1,5 @@
 -- `datetime64_runs::writing::write_by_ratio` meets its contract: proofs/Putting.antt.
-use mathlib.Core.Path.{_≡_, sym, ap, _∙_}
+use mathlib.Core.Path.{ap, _∙_}
 use Prim.Native.Nat.{_-_}
 use lib.IntN.{ℤ, pos}
 use lib.ListN.{length, getD}

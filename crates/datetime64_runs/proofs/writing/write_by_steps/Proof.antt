@@ -1,15 +1,13 @@
 -- `datetime64_runs::writing::write_by_steps` meets its contract: proofs/Putting.antt.
-use mathlib.Core.Path.{_≡_, sym, ap, _∙_}
+use mathlib.Core.Path.{ap, _∙_}
 use Prim.Native.Nat.{_-_}
 use lib.IntN.{ℤ, pos}
 use lib.ListN.{length, getD}
 use mir.Syntax.{w64}
 use mir.Val.{toZ, ofZ}
 use mir.ValLaws.{toZ-ofZ}
-use Rattle.axis_types.specs.Reading.{isNone, offsetOf, offsetRefusal}
-use Rattle.runs.proofs.Passes.{read-at}
+use Rattle.axis_types.specs.Reading.{offsetOf}
 use Rattle.datetime64_number.specs.Numbers.{writeNumber}
-use Rattle.datetime64_runs.specs.Runs.{instantRefusal}
 use Rattle.datetime64_runs.proofs.Putting.{Putting, putting-starts, record-fits, putting-on, putting-ends}
 use borrow.Author.Needs.{needs}
 use Rattle.datetime64_runs.proofs.writing.write_by_steps.Statement.{statement}
