@@ -5,6 +5,7 @@ use native.Mathlib.Omega.{arith}
 use lib.Dec.{T}
 use mathlib.Core.Bool.{true}
 use Rattle.ratio.specs.Multiples.{Steps}
+use Rattle.ratio.proofs.Places.{turned-steps}
 use Rattle.datetime64_type.specs.Units.{unitRowOf}
 use Rattle.datetime64_type.specs.declared.UnitCode.{UnitCode}
 use Rattle.datetime64_type.specs.declared.UnitCode.the-variants.{Year, Month, Week, Day, Hour, Minute, Second, Millisecond, Microsecond, Nanosecond, Picosecond, Femtosecond, Attosecond}
@@ -34,23 +35,17 @@ pub divisor : {k : ℕ} → 1000 ≤ k → 0 < k
 divisor h = omega arith
 
 -- ---- multiples that lie between -A and B
-module _ (A B k : ℕ) (low : A ≤ 9223372036854775808) (high : B < 9223372036854775808) where
+module _ (A B k : ℕ) (low : A ≤ 9223372036854775808) (high : B < 9223372036854775808) (positive : 0 < k) where
   pub times-steps : Steps 1 k (A / k) (B / k)
   times-steps =
       record {
         positive = omega arith;
+        positive-to = positive;
         least = omega (arith, div-le-self A k);
         greatest = omega (arith, div-le-self B k);
         least-to = omega (arith, div-mul-le-self A k);
         greatest-to = omega (arith, div-mul-le-self B k);
       }
 
-  pub quotient-steps : 0 < k → Steps k 1 (A / k) (B / k)
-  quotient-steps g =
-      record {
-        positive = g;
-        least = omega (arith, div-mul-le-self A k);
-        greatest = omega (arith, div-mul-le-self B k);
-        least-to = omega (arith, div-le-self A k);
-        greatest-to = omega (arith, div-le-self B k);
-      }
+  pub quotient-steps : Steps k 1 (A / k) (B / k)
+  quotient-steps = turned-steps times-steps

@@ -1,5 +1,5 @@
 -- Numbers and instants of a unit, as the functions meet them: the tests before the row, and what a ratio or steps give.
-use mathlib.Core.Path.{_≡_, refl, sym, ap, _∙_}
+use mathlib.Core.Path.{_≡_, refl, sym, ap, _∙_, subst}
 use mathlib.Core.Bool.{Bool, true, false, cond, false≢true}
 use mathlib.Core.Option.{none}
 use Prim.Native.Nat.{ℕ, _<_}
@@ -18,7 +18,7 @@ use Rattle.axis_types.specs.declared.Reading.{Reading}
 use Rattle.axis_types.specs.declared.OffsetAnswer.{OffsetAnswer}
 use Rattle.calendar_axis.specs.Steps.{readSteps, writeSteps}
 use Rattle.step.specs.declared.Part.{Part}
-use Rattle.ratio.specs.Multiples.{Place, IsMultiple, Good, Between}
+use Rattle.ratio.specs.Multiples.{Place, IsRatio, IsMultiple, Good, Between}
 use Rattle.ratio.specs.declared.Bounds.{Bounds}
 use Rattle.ratio.specs.declared.Ratio.{Ratio}
 use Rattle.ratio.proofs.Places.{good}
@@ -39,6 +39,16 @@ pub writes-good : (row : UnitRow) (r : Ratio) → WritesByRatio row r → Good r
 writes-good (UnitRow.Steps part) r q = absurd q
 writes-good (UnitRow.Multiple k) r q = good q
 writes-good (UnitRow.Fraction k) r q = good q
+
+-- a ratio that reads, turned, writes
+same-ratio : {r : Ratio} {a b c d a′ b′ c′ d′ : ℕ} → a ≡ a′ → b ≡ b′ → c ≡ c′ → d ≡ d′ → IsRatio r a b c d → IsRatio r a′ b′ c′ d′
+same-ratio {r} {a} {b} {c} {d} {a′} {b′} {c′} {d′} e f g h q =
+    subst (λ (x : ℕ). IsRatio r x b′ c′ d′) e (subst (λ (x : ℕ). IsRatio r a x c′ d′) f (subst (λ (x : ℕ). IsRatio r a b x d′) g (subst (λ (x : ℕ). IsRatio r a b c x) h q)))
+
+pub turned-writes : (row : UnitRow) (r s : Ratio) → ReadsByRatio row r → IsRatio s (r .to) (r .from) (r .below) (r .above) → WritesByRatio row s
+turned-writes (UnitRow.Steps part) r s q p = absurd q
+turned-writes (UnitRow.Multiple k) r s q p = same-ratio (q .to-is) (q .from-is) (q .below-is) (q .above-is) p
+turned-writes (UnitRow.Fraction k) r s q p = same-ratio (q .to-is) (q .from-is) (q .below-is) (q .above-is) p
 
 -- one place has one number
 pub one-number : {step below above : ℕ} (x y : ℤ) (i : ℕ) → SFits w64 x → SFits w64 y → Place step below above (biased x) i → Place step below above (biased y) i → x ≡ y

@@ -62,29 +62,13 @@ pub fn reading_of(unit: UnitCode) -> Conversion
     }
 }
 
-// The conversion of instants into numbers.
+// The conversion of instants into numbers: the same steps, and the ratio turned.
 pub fn writing_of(unit: UnitCode) -> Conversion
     ensures { λ r. ⌜ Writes (unitRowOf unit) r ⌝ }
 {
-    match datetime64_type::row_of(unit) {
-        UnitRow::Steps(part) => {
-            return Conversion::Calendar(
-                part,
-                calendar_axis::start_of(Calendar::ProlepticGregorian, 0),
-            );
-        }
-        UnitRow::Multiple(k) => {
-            return Conversion::Fixed(ratio::ratio_of(
-                k,
-                1,
-                377705116800000000 / k,
-                253402300799999999 / k,
-            ));
-        }
-        UnitRow::Fraction(k) => {
-            let most = 0x7fff_ffff_ffff_ffff / k;
-            return Conversion::Fixed(ratio::ratio_of(1, k, most, most));
-        }
+    match reading_of(unit) {
+        Conversion::Calendar(part, start) => return Conversion::Calendar(part, start),
+        Conversion::Fixed(ratio) => return Conversion::Fixed(ratio::turned(ratio)),
     }
 }
 

@@ -69,3 +69,7 @@ or-small a b h = (omega (arith, or-add-and a b, and-le-r a b), omega (arith, or-
 -- the differences of u from bounds around 0 wrap where it lies outside
 pub between : (low high u below above : ℕ) → low ≤ 9223372036854775808 → 9223372036854775808 ≤ high → u < 2 ^ 64 → (below + low) % 2 ^ 64 ≡ u → (above + u) % 2 ^ 64 ≡ high → below < 9223372036854775808 → above < 9223372036854775808 → (low ≤ u) × (u ≤ high)
 between low high u below above l h f d e p q = (omega arith, omega arith)
+
+-- ---- the other way round
+pub turned-steps : {from to below above : ℕ} → Steps from to below above → Steps to from below above
+turned-steps s = record { positive = s .positive-to; positive-to = s .positive; least = s .least-to; greatest = s .greatest-to; least-to = s .least; greatest-to = s .greatest }

@@ -15,6 +15,7 @@ pub record Place (step below above u i : ℕ) : Type 0 where
 -- the multiples lie in 64 bits
 pub record Steps (from to below above : ℕ) : Type 0 where
   pub positive : 0 < from
+  pub positive-to : 0 < to
   pub least : below * from ≤ 9223372036854775808
   pub greatest : above * from < 9223372036854775808
   pub least-to : below * to ≤ 9223372036854775808

@@ -39,6 +39,14 @@ pub fn ratio_of(from: u64, to: u64, below: u64, above: u64) -> Ratio
     }
 }
 
+// The ratio that exchanges the other way.
+pub fn turned(r: Ratio) -> Ratio
+    requires { ⌜ Good r ⌝ }
+    ensures { λ t. ⌜ IsRatio t (r .to) (r .from) (r .below) (r .above) ⌝ }
+{
+    ratio_of(r.to, r.from, r.below, r.above)
+}
+
 // Of a multiple v of the step, how many times the step it is.
 fn times_in(r: Ratio, v: u64) -> u64
     requires { ⌜ Good r ⌝ }

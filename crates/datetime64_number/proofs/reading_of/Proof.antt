@@ -34,7 +34,7 @@ div-ratio-of-2 : tie.Need-div-ratio-of-2
 div-ratio-of-2 c = multiple (c .before)
 
 ratio-of-requires : tie.Need-ratio-of-requires
-ratio-of-requires c κs = times-steps yearsBelow yearsAbove (c .before .k .given .0 .0) (omega arith) (omega arith)
+ratio-of-requires c κs = times-steps yearsBelow yearsAbove (c .before .k .given .0 .0) (omega arith) (omega arith) (multiple (c .before))
 
 returns-2 : tie.Need-returns-2
 returns-2 c = subst (λ (row : UnitRow). ReadsByRatio row (c .ratio-of .result)) (sym (row-is (c .before .before))) (c .ratio-of .ensures)
