@@ -64,6 +64,14 @@ fn all_multiples(order: ByteOrder, bytes: &[u8], ratio: Ratio) -> bool
     return true;
 }
 
+// Whether bounds are the quicker test. Big-endian records would have to be turned round several at once, for which the machine has no instruction.
+fn several_at_once(order: ByteOrder, step: u64) -> bool {
+    match order {
+        ByteOrder::Little => return step == 1,
+        ByteOrder::Big => return false,
+    }
+}
+
 // Whether every record is known to be read, by bounds or as a multiple. Where it is not known, nothing is said.
 fn surely_read(t: Datetime64Type, conversion: Conversion, bytes: &[u8]) -> bool
     requires { ⌜ Reads (unitRowOf (t .unit)) conversion ⌝ }
@@ -75,7 +83,7 @@ fn surely_read(t: Datetime64Type, conversion: Conversion, bytes: &[u8]) -> bool
             return all_between(order, bytes, datetime64_number::near_bounds(part));
         }
         Conversion::Fixed(ratio) => {
-            if ratio.from == 1 {
+            if several_at_once(order, ratio.from) {
                 return all_between(order, bytes, ratio::bounds_of(ratio));
             }
             return all_multiples(order, bytes, ratio);

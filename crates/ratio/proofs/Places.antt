@@ -1,7 +1,7 @@
 -- The place of a number among the multiples.
 use mathlib.Core.Path.{_≡_, refl, sym, ap, _∙_, subst}
 use Prim.Native.Nat.{ℕ, _+_, _-_, _*_, _%_, _≤_, _<_, _^_}
-use native.Mathlib.Nat.{add-mul, mul-le-mul-right, le-mul-of-pos-right}
+use native.Mathlib.Nat.{add-mul, mul-le-mul-right, le-mul-of-pos-right, le-of-mul-le-mul-right}
 use native.Mathlib.Omega.{arith}
 use lib.Bits.{bitOr, or-add-and, and-le-l, and-le-r}
 use Rattle.ratio.specs.Multiples.{Place, Steps, reciprocalOf, IsRatio, Good, IsMultiple}
@@ -24,29 +24,39 @@ module _ {from to below above : ℕ} (s : Steps from to below above) where
   pub steps-fit-to : (i : ℕ) → i ≤ below + above → 9223372036854775808 - below * to + i * to < 18446744073709551616
   steps-fit-to i h = omega (arith, steps-le to below above i h, s .least-to, s .greatest-to)
 
--- ---- u is sought among the multiples: n is the times that are found in what lies between the least multiple and u
+-- ---- u is sought among the multiples: v lies between the least multiple and u, and n is the times that are found in it
 module _ (r : Ratio) (g : Good r) (u : ℕ) where
   abbrev first : ℕ
   first = 9223372036854775808 - r .below * r .from
 
+  abbrev span : ℕ
+  span = (r .below + r .above) * r .from
+
+  pub span-fits : span < 18446744073709551616
+  span-fits = steps-fit (g .steps) (r .below + r .above) (omega arith)
+
   pub from-first : (i : ℕ) → Place (r .from) (r .below) (r .above) u i → (first ≤ u) × (u - first ≡ i * r .from)
   from-first i p = (omega (arith, p .is, g .steps .least), omega (arith, p .is, g .steps .least))
 
-  pub before-first : u < first → IsMultiple r u → ⊥
-  before-first h p = omega (arith, from-first (p .0) (p .1) .0)
+  pub place-is : (n : ℕ) → ((i : ℕ) → u - first ≡ i * r .from → n ≡ i) → (i : ℕ) → Place (r .from) (r .below) (r .above) u i → n ≡ i
+  place-is n times i p = times i (from-first i p .1)
 
-  module _ (n : ℕ) (times : (i : ℕ) → u - first ≡ i * r .from → n ≡ i) where
-    pub place-is : (i : ℕ) → Place (r .from) (r .below) (r .above) u i → n ≡ i
-    place-is i p = times i (from-first i p .1)
+  module _ (v : ℕ) (small : v < 2 ^ 64) (wraps : (v + first) % 2 ^ 64 ≡ u) where
+    between-is : (i : ℕ) → Place (r .from) (r .below) (r .above) u i → v ≡ i * r .from
+    between-is i p = let e = from-first i p in omega (arith, wraps, e .0, e .1, steps-fit (g .steps) i (p .inside))
 
-    pub past-last : r .below + r .above < n → IsMultiple r u → ⊥
-    past-last h p = omega (arith, place-is (p .0) (p .1), p .1 .inside)
+    pub past-last : span < v → IsMultiple r u → ⊥
+    past-last h p = omega (arith, between-is (p .0) (p .1), mul-le-mul-right (r .from) (p .1 .inside))
 
-    pub between-two : (n * r .from ≡ u - first → ⊥) → IsMultiple r u → ⊥
-    between-two h p = h (ap (λ (k : ℕ). k * r .from) (place-is (p .0) (p .1)) ∙ sym (from-first (p .0) (p .1) .1))
+    module _ (n : ℕ) (times : (i : ℕ) → v ≡ i * r .from → n ≡ i) where
+      pub between-two : (n * r .from ≡ v → ⊥) → IsMultiple r u → ⊥
+      between-two h p = let e = between-is (p .0) (p .1) in h (ap (λ (k : ℕ). k * r .from) (times (p .0) e) ∙ sym e)
 
-  pub found : (n : ℕ) → first ≤ u → n ≤ r .below + r .above → n * r .from ≡ u - first → IsMultiple r u
-  found n h k e = (n, record { inside = k; is = omega (arith, e, g .steps .least) })
+    pub found : (n : ℕ) → v ≤ span → n * r .from ≡ v → IsMultiple r u
+    found n h e =
+        let k : n ≤ r .below + r .above = le-of-mul-le-mul-right {k = r .from} (omega arith) (g .steps .positive) in
+        let s = add-mul (r .below) (r .above) (r .from) in
+        (n, record { inside = k; is = omega (arith, wraps, e, s, g .steps .least, g .steps .greatest) })
 
 -- a ratio of known steps
 pub good : {r : Ratio} {from to below above : ℕ} → IsRatio r from to below above → Good r

@@ -3,7 +3,7 @@
 // A reader may rely on specs/Multiples.antt.
 ghost use mathlib.Core.Path.{_≡_};
 ghost use mathlib.Core.Bool.{true, false};
-ghost use Prim.Native.Nat.{ℕ, _*_, _<_};
+ghost use Prim.Native.Nat.{ℕ, _+_, _*_, _≤_, _<_};
 ghost use Rattle.signed.specs.Bias.{biased};
 ghost use Rattle.ratio.specs.Multiples.{Steps, Place, reciprocalOf, IsRatio, Good, IsMultiple, AroundZero, Between, IsBounds};
 
@@ -47,10 +47,11 @@ pub fn turned(r: Ratio) -> Ratio
     ratio_of(r.to, r.from, r.below, r.above)
 }
 
-// Of a multiple v of the step, how many times the step it is.
+// Of a multiple v of the step, how many times the step it is. Of another number it is not more than of the greatest multiple.
 fn times_in(r: Ratio, v: u64) -> u64
     requires { ⌜ Good r ⌝ }
-    ensures { λ n. ⌜ ((i : ℕ) → v ≡ i * r .from → n ≡ i) ⌝ }
+    ensures found { λ n. ⌜ ((i : ℕ) → v ≡ i * r .from → n ≡ i) ⌝ }
+    ensures bounded { λ n. ⌜ (v ≤ (r .below + r .above) * r .from → n ≤ r .below + r .above) ⌝ }
 {
     if r.from == 1 {
         return v;
@@ -64,16 +65,13 @@ pub fn has(r: Ratio, x: i64) -> bool
     ensures found { λ b. ⌜ (b ≡ true → IsMultiple r (biased x)) ⌝ }
     ensures missed { λ b. ⌜ (b ≡ false → IsMultiple r (biased x) → ⊥) ⌝ }
 {
-    let u = signed::biased(x);
     let first = 0x8000_0000_0000_0000 - r.below * r.from;
-    if u < first {
+    // below the least multiple this wraps, and is greater than all of them
+    let v = std::num::wrapping_sub_u64(signed::biased(x), first);
+    if (r.below + r.above) * r.from < v {
         return false;
     }
-    let n = times_in(r, u - first);
-    if r.below + r.above < n {
-        return false;
-    }
-    return n * r.from == u - first;
+    return times_in(r, v) * r.from == v;
 }
 
 // What x is exchanged for, which is one of the multiples.

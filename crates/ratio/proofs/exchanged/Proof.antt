@@ -42,13 +42,13 @@ mul-unbiased-2 : tie.Need-mul-unbiased-2
 mul-unbiased-2 c =
     let t = c .before .before in
     let s = t .before .before .before .before .before in
-    omega (arith, fits-to (s .args .r) (s .pre .0) (t .before .biased .result) (t .times-in .result) (t .times-in .ensures) (known (t .before)))
+    omega (arith, fits-to (s .args .r) (s .pre .0) (t .before .biased .result) (t .times-in .result) (t .times-in .ensures .0) (known (t .before)))
 
 add-unbiased : tie.Need-add-unbiased
 add-unbiased c =
     let t = c .before .before in
     let s = t .before .before .before .before .before in
-    record { fits = fits-to (s .args .r) (s .pre .0) (t .before .biased .result) (t .times-in .result) (t .times-in .ensures) (known (t .before)) }
+    record { fits = fits-to (s .args .r) (s .pre .0) (t .before .biased .result) (t .times-in .result) (t .times-in .ensures .0) (known (t .before)) }
 
 returns : tie.Need-returns
 returns c =
@@ -66,7 +66,7 @@ returns-2 c =
     let e = b .biased .ensures ∙ ap biased (toZ-ofZ w64 (s .args .x) (s .fits .x)) in
     let y = ap biased (toZ-ofZ w64 (c .unbiased .result) (record { sfits = c .unbiased .ok }) ∙ c .unbiased .ensures) ∙ lift-sub (9223372036854775808 - r .below * r .to + t .times-in .result * r .to) 9223372036854775808 in
     λ i p.
-    let n = place-is r (s .pre .0) (b .biased .result) (t .times-in .result) (t .times-in .ensures) i (subst (λ (u : ℕ). Place (r .from) (r .below) (r .above) u i) (sym e) p) in
+    let n = place-is r (s .pre .0) (b .biased .result) (t .times-in .result) (t .times-in .ensures .0) i (subst (λ (u : ℕ). Place (r .from) (r .below) (r .above) u i) (sym e) p) in
     let m = ap (λ (k : ℕ). k * r .to) n in
     record { inside = p .inside; is = omega (arith, y, m, s .pre .0 .steps .least-to) }
 

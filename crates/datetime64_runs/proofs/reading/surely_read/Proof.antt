@@ -86,6 +86,7 @@ surely-read-spec =
     all-between-requires
     returns
     (λ c. search needs)
+    (λ c κs. search needs)
     bounds-of-requires
     all-between-requires-2
     returns-2
