@@ -38,7 +38,7 @@ def first_sentence(path, mark):
         if not line.startswith(mark):
             break
         words.append(line.removeprefix(mark).strip())
-    return re.split(r"(?<=[^0-9])\.(?:\s|$)", " ".join(words))[0].rstrip(":") + "."
+    return re.split(r"\.(?:\s|$)", " ".join(words))[0].rstrip(":") + "."
 
 
 def specs_of(crate):
