@@ -9,6 +9,7 @@ use crate::datetime64_type::{Datetime64Type, Unit, type_named};
 use crate::instant::{fields_of, instant_of_count};
 use crate::refusal::Refusal;
 use crate::runs::{Counts, Refused};
+use crate::writing::least_not_before;
 
 const NOT_A_TIME: i64 = i64::MIN;
 const CALENDAR: Calendar = Calendar::ProlepticGregorian;
@@ -47,23 +48,9 @@ fn is_before(unit: Unit, number: i64, instant: i64) -> bool {
     }
 }
 
-/// The least number whose time is not before an instant, or the greatest number of all.
-fn least_not_before(unit: Unit, instant: i64) -> i64 {
-    let (mut low, mut high) = (NOT_A_TIME as i128 + 1, i64::MAX as i128);
-    while low < high {
-        let middle = (low + high).div_euclid(2);
-        if is_before(unit, middle as i64, instant) {
-            low = middle + 1;
-        } else {
-            high = middle;
-        }
-    }
-    low as i64
-}
-
 pub fn write_instant(unit: Unit, instant: i64) -> Result<i64, Refusal> {
     fields_of(CALENDAR, instant)?;
-    let number = least_not_before(unit, instant);
+    let number = least_not_before(NOT_A_TIME + 1, |number| is_before(unit, number, instant));
     if read_number(unit, number) == Ok(instant) { Ok(number) } else { Err(Refusal::Inexact) }
 }
 

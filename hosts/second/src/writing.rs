@@ -14,12 +14,12 @@ fn reads_before(axis: Axis, offset: i64, instant: i64) -> bool {
     }
 }
 
-/// The least offset that does not read as an earlier instant, or the greatest offset of all.
-fn least_not_before(axis: Axis, instant: i64) -> i64 {
-    let (mut low, mut high) = (i64::MIN as i128, i64::MAX as i128);
+/// The least number from one on that a test does not say lies before, or the greatest number of all: those that lie before come first.
+pub fn least_not_before(from: i64, is_before: impl Fn(i64) -> bool) -> i64 {
+    let (mut low, mut high) = (from as i128, i64::MAX as i128);
     while low < high {
         let middle = (low + high).div_euclid(2);
-        if reads_before(axis, middle as i64, instant) {
+        if is_before(middle as i64) {
             low = middle + 1;
         } else {
             high = middle;
@@ -31,7 +31,7 @@ fn least_not_before(axis: Axis, instant: i64) -> i64 {
 pub fn write_instant(axis: Axis, instant: i64) -> Result<i64, Refusal> {
     tested(axis)?;
     fields_of(axis.calendar, instant)?;
-    let offset = least_not_before(axis, instant);
+    let offset = least_not_before(i64::MIN, |offset| reads_before(axis, offset, instant));
     match read_whole(axis, offset) {
         Ok(reading) if reading.instant == instant => Ok(offset),
         _ => Err(Refusal::Inexact),
