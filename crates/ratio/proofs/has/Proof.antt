@@ -1,5 +1,5 @@
 -- `ratio::has` meets its contract: proofs/Places.antt.
-use mathlib.Core.Path.{_≡_, sym, ap, _∙_, subst}
+use mathlib.Core.Path.{sym, ap, _∙_, subst}
 use mathlib.Core.Bool.{false≢true}
 use Prim.Native.Nat.{_*_}
 use native.Mathlib.Omega.{arith}
