@@ -2,7 +2,7 @@
 use mathlib.Core.Path.{_≡_, refl, sym, subst}
 use mathlib.Core.List.{List, [], _∷_}
 use mathlib.Core.Option.{Option, none}
-use Prim.Native.Nat.{ℕ, suc, _+_, _<_}
+use Prim.Native.Nat.{ℕ, suc, _+_, _≤_, _<_}
 use native.Mathlib.Omega.{arith}
 use native.Mathlib.Decide.{decLe}
 use lib.Bits.{bitOr}
@@ -14,7 +14,7 @@ use mir.ValLaws.{toZ-ofZ}
 use Rattle.refusal.specs.declared.Refusal.{Refusal}
 use Rattle.runs.specs.Run.{after, firstRefused}
 use Rattle.runs.specs.declared.Check.{Check}
-use Rattle.ratio.proofs.Places.{or-small}
+use Rattle.ratio.proofs.Places.{or-least}
 
 -- P holds of each place before i
 abbrev pub Before : (ℕ → Type 0) → ℕ → Type 0
@@ -28,8 +28,8 @@ before-on P i f p j h =
     ]
 
 -- one number more is joined to those before it
-pub joined : (P : ℕ → Type 0) (i s t : ℕ) → (s < 9223372036854775808 → Before P i) → (t < 9223372036854775808 → P i) → bitOr s t < 9223372036854775808 → Before P (i + 1)
-joined P i s t f g h = let o = or-small s t h in before-on P i (f (o .0)) (g (o .1))
+pub joined : (P : ℕ → Type 0) (i m s t : ℕ) → (s ≤ m → Before P i) → (t ≤ m → P i) → bitOr s t ≤ m → Before P (i + 1)
+joined P i m s t f g h = let o = or-least m s t h in before-on P i (f (o .0)) (g (o .1))
 
 -- where no element is refused
 pub none-refused : {A : Type 0} (refusal : A → Option Refusal) (d : A) (xs : List A) → Before (λ (i : ℕ). refusal (getD xs i d) ≡ none) (length xs) → firstRefused refusal xs ≡ Check.AllRead

@@ -38,13 +38,14 @@ fn all_between(order: ByteOrder, bytes: &[u8], bounds: Bounds) -> bool
     ensures { λ r. ⌜ (r ≡ true → (i : ℕ) → i < recordCount (now (bytes .entry)) → let n = numberAt order (now (bytes .entry)) i in SFits w64 n × Between bounds (biased n)) ⌝ }
 {
     let count = bytes.len() / 8;
-    let mut strayed: u64 = 0;
+    let span = bounds.high - bounds.low;
+    let mut joined: u64 = 0;
     let mut i: usize = 0;
     while i < count {
-        strayed = strayed | ratio::strayed(bounds, records::number_at(order, bytes, i));
+        joined = joined | ratio::above_low(bounds, records::number_at(order, bytes, i));
         i += 1;
     }
-    strayed < 0x8000_0000_0000_0000
+    joined <= span
 }
 
 // Whether the number of every record is one of the multiples of a ratio.
@@ -84,7 +85,9 @@ fn surely_read(t: Datetime64Type, conversion: Conversion, bytes: &[u8]) -> bool
         }
         Conversion::Fixed(ratio) => {
             if several_at_once(order, ratio.from) {
-                return all_between(order, bytes, ratio::bounds_of(ratio));
+                if all_between(order, bytes, ratio::bounds_of(ratio)) {
+                    return true;
+                }
             }
             return all_multiples(order, bytes, ratio);
         }

@@ -36,13 +36,14 @@ fn all_between(instants: &[i64], bounds: Bounds) -> bool
     requires { ⌜ AroundZero bounds ⌝ }
     ensures { λ r. ⌜ (r ≡ true → (i : ℕ) → i < length (now (instants .entry)) → let t = getD (now (instants .entry)) i (pos 0) in SFits w64 t × Between bounds (biased t)) ⌝ }
 {
-    let mut strayed: u64 = 0;
+    let span = bounds.high - bounds.low;
+    let mut joined: u64 = 0;
     let mut i: usize = 0;
     while i < instants.len() {
-        strayed = strayed | ratio::strayed(bounds, instants[i]);
+        joined = joined | ratio::above_low(bounds, instants[i]);
         i += 1;
     }
-    strayed < 0x8000_0000_0000_0000
+    joined <= span
 }
 
 // Whether every instant is one of the multiples of a ratio.
@@ -70,7 +71,9 @@ fn surely_written(t: Datetime64Type, conversion: Conversion, instants: &[i64]) -
         Conversion::Calendar(_, _) => return false,
         Conversion::Fixed(ratio) => {
             if ratio.from == 1 {
-                return all_between(instants, ratio::bounds_of(ratio));
+                if all_between(instants, ratio::bounds_of(ratio)) {
+                    return true;
+                }
             }
             return all_multiples(instants, ratio);
         }

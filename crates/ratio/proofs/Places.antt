@@ -73,12 +73,13 @@ good {r} {from} {to} {below} {above} q =
     }
 
 -- ---- bounds
-pub or-small : (a b : ℕ) → bitOr a b < 9223372036854775808 → (a < 9223372036854775808) × (b < 9223372036854775808)
-or-small a b h = (omega (arith, or-add-and a b, and-le-r a b), omega (arith, or-add-and a b, and-le-l a b))
+-- what is joined is at least as great as each part of it
+pub or-least : (m a b : ℕ) → bitOr a b ≤ m → (a ≤ m) × (b ≤ m)
+or-least m a b h = (omega (arith, or-add-and a b, and-le-r a b), omega (arith, or-add-and a b, and-le-l a b))
 
--- the differences of u from bounds around 0 wrap where it lies outside
-pub between : (low high u below above : ℕ) → low ≤ 9223372036854775808 → 9223372036854775808 ≤ high → u < 2 ^ 64 → (below + low) % 2 ^ 64 ≡ u → (above + u) % 2 ^ 64 ≡ high → below < 9223372036854775808 → above < 9223372036854775808 → (low ≤ u) × (u ≤ high)
-between low high u below above l h f d e p q = (omega arith, omega arith)
+-- the difference of u from the lower bound wraps where u lies below it
+pub between : (low high u above : ℕ) → low ≤ 9223372036854775808 → 9223372036854775808 ≤ high → high < 2 ^ 64 → above < 2 ^ 64 → u < 2 ^ 64 → (above + low) % 2 ^ 64 ≡ u → above ≤ high - low → (low ≤ u) × (u ≤ high)
+between low high u above l h f g k e p = (omega arith, omega arith)
 
 -- ---- the other way round
 pub turned-steps : {from to below above : ℕ} → Steps from to below above → Steps to from below above

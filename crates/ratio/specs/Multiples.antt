@@ -40,9 +40,9 @@ Good r = IsRatio r (r .from) (r .to) (r .below) (r .above)
 abbrev pub IsMultiple : Ratio → ℕ → Type 0
 IsMultiple r u = (i : ℕ) × Place (r .from) (r .below) (r .above) u i
 
--- ---- bounds
+-- ---- bounds, of 64 bits
 abbrev pub AroundZero : Bounds → Type 0
-AroundZero b = (b .low ≤ 9223372036854775808) × (9223372036854775808 ≤ b .high)
+AroundZero b = (b .low ≤ 9223372036854775808) × (9223372036854775808 ≤ b .high) × (b .high < 18446744073709551616)
 
 abbrev pub Between : Bounds → ℕ → Type 0
 Between b u = (b .low ≤ u) × (u ≤ b .high)

@@ -3,7 +3,7 @@
 // A reader may rely on specs/Multiples.antt.
 ghost use mathlib.Core.Path.{_≡_};
 ghost use mathlib.Core.Bool.{true, false};
-ghost use Prim.Native.Nat.{ℕ, _+_, _*_, _≤_, _<_};
+ghost use Prim.Native.Nat.{ℕ, _+_, _-_, _*_, _≤_};
 ghost use Rattle.signed.specs.Bias.{biased};
 ghost use Rattle.ratio.specs.Multiples.{Steps, Place, reciprocalOf, IsRatio, Good, IsMultiple, AroundZero, Between, IsBounds};
 
@@ -111,11 +111,10 @@ pub fn bounds_of(r: Ratio) -> Bounds
     };
 }
 
-// A number from 2^63 on where x lies outside bounds around 0: the first bit of one of two differences.
-pub fn strayed(b: Bounds, x: i64) -> u64
+// How far x lies above the lower bound. Below it this wraps, and is more than the bounds lie apart.
+pub fn above_low(b: Bounds, x: i64) -> u64
     requires { ⌜ AroundZero b ⌝ }
-    ensures { λ r. ⌜ (r < 9223372036854775808 → Between b (biased x)) ⌝ }
+    ensures { λ r. ⌜ (r ≤ b .high - b .low → Between b (biased x)) ⌝ }
 {
-    let u = signed::biased(x);
-    std::num::wrapping_sub_u64(u, b.low) | std::num::wrapping_sub_u64(b.high, u)
+    std::num::wrapping_sub_u64(signed::biased(x), b.low)
 }

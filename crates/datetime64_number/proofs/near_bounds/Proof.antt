@@ -12,7 +12,7 @@ returns c =
     let m = c .near-steps .result in
     let g = c .near-steps .ensures in
     record {
-      around = (omega arith, omega arith);
+      around = (omega arith, omega arith, omega (arith, g .1));
       time = λ n b. has-time n (omega (arith, b .0, g .1));
       read = λ n f b. near-read p n m f (g .0) (omega (arith, b .0)) (b .1);
     }

@@ -19,12 +19,12 @@ returns c =
     let r = s .args .r in
     let f = few-below (s .pre .steps) in
     record {
-      around = (omega arith, omega arith);
+      around = (omega arith, omega arith, omega (arith, few-above (s .pre .steps)));
       all = λ u b. let i = u + r .below - 9223372036854775808 in (i, subst (λ (k : ℕ). Place k (r .below) (r .above) u i) (sym (c .before .before .if1 .taken)) (record { inside = omega arith; is = omega arith }));
     }
 
 returns-2 : tie.Need-returns-2
-returns-2 c = let r = c .before .before .args .r in record { around = (omega arith, omega arith); all = λ u b. (r .below, record { inside = omega arith; is = omega arith }) }
+returns-2 c = let r = c .before .before .args .r in record { around = (omega arith, omega arith, omega arith); all = λ u b. (r .below, record { inside = omega arith; is = omega arith }) }
 
 pub bounds-of-spec : {M : Type 1} → statement M
 bounds-of-spec = tie.close (tie.spec sub-t3 add-t4 returns returns-2)

@@ -54,7 +54,8 @@ all-between-requires-2 c κs = c .bounds-of .ensures .around
 
 returns-2 : tie.Need-returns-2
 returns-2 c =
-    let b = c .before in
+    let a = c .before in
+    let b = a .before in
     let k = b .before .before .before .before in
     let s = k .before .before .before in
     let t = s .args .t in
@@ -62,7 +63,7 @@ returns-2 c =
     all-good t (s .args .bytes .now)
     (λ i g.
     let n = numberAt (t .order) (s .args .bytes .now) i in
-    let p = c .all-between2 .ensures h i g in
+    let p = a .all-between2 .ensures (c .if2 .taken) i g in
     multiple-good (t .unit) (k .conversion2 .given .0 .0) (fixed-row k) n (p .0) (b .bounds-of .ensures .all (biased n) (p .1)))
 
 all-multiples-requires : tie.Need-all-multiples-requires

@@ -27,7 +27,8 @@ all-between-requires c κs = c .bounds-of .ensures .around
 
 returns-2 : tie.Need-returns-2
 returns-2 c =
-    let b = c .before in
+    let w = c .before in
+    let b = w .before in
     let k = b .before .before .before .before in
     let a = k .before .before .args in
     let ts = a .instants .now in
@@ -35,7 +36,7 @@ returns-2 c =
     none-refused (instantRefusal (a .t)) (pos 0) ts
     (λ i g.
     let x = getD ts i (pos 0) in
-    let p = c .all-between .ensures h i g in
+    let p = w .all-between .ensures (c .if2 .taken) i g in
     written-good (a .t .unit) (k .conversion .given .0 .0) (fixed-row k) x (p .0) (b .bounds-of .ensures .all (biased x) (p .1)))
 
 all-multiples-requires : tie.Need-all-multiples-requires
