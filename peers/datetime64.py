@@ -14,8 +14,9 @@ REASONS = {
     "o": "NumPy's arithmetic leaves 64 bits, and another time comes out. We refuse it, in reading with 5 and in writing with 6.",
     "5": "We refuse what lies past the years -9999 to 9999, with 5; NumPy goes on.",
 }
-#: The types that are timed.
+#: The types that are timed, and the first and the last instant of the times that stand in them.
 TIMED = ["<M8[us]", "<M8[ns]", ">M8[s]", "<M8[M]"]
+YEARS = [numpy.datetime64(day, "us").astype(int).item() for day in ("1850-01-01", "2100-01-01")]
 
 
 def _half_whole(numbers, parts):
@@ -88,7 +89,7 @@ def timed(count):
     random = numpy.random.default_rng(2262)
     for identifier in TIMED:
         unit = unit_of(identifier)
-        numbers = random.integers(*ends(unit), count)
+        numbers = random.integers(*(number_of(unit, instant) for instant in YEARS), count)
         records = (numbers - numbers % PARTS.get(unit, 1)).astype(identifier.replace("M8", "i8")[:3]).tobytes()
         array = numpy.frombuffer(records, identifier)
         instants = array.astype("M8[us]")
