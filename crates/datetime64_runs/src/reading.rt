@@ -32,7 +32,8 @@ use runs::Check;
 use runs::RunAnswer;
 use step::Part;
 
-// Whether the number of every record lies between bounds around 0. No record decides by itself, so that the compiler can take several at once.
+// Whether the number of every record surely lies between bounds around 0: joined, their differences from the lower bound are no less than
+// the greatest of them. No record decides by itself, so that the compiler can take several at once. A no says nothing.
 fn all_between(order: ByteOrder, bytes: &[u8], bounds: Bounds) -> bool
     requires { ⌜ AroundZero bounds ⌝ }
     ensures { λ r. ⌜ (r ≡ true → (i : ℕ) → i < recordCount (now (bytes .entry)) → let n = numberAt order (now (bytes .entry)) i in SFits w64 n × Between bounds (biased n)) ⌝ }
@@ -73,7 +74,7 @@ fn several_at_once(order: ByteOrder, step: u64) -> bool {
     }
 }
 
-// Whether every record is known to be read, by bounds or as a multiple. Where it is not known, nothing is said.
+// Whether every record is known to be read, by bounds or else as a multiple. Where it is not known, nothing is said.
 fn surely_read(t: Datetime64Type, conversion: Conversion, bytes: &[u8]) -> bool
     requires { ⌜ Reads (unitRowOf (t .unit)) conversion ⌝ }
     ensures { λ r. ⌜ (r ≡ true → checked (readRecord t) (recordsIn (now (bytes .entry))) ≡ Check.AllRead) ⌝ }

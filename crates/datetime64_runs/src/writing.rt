@@ -31,7 +31,7 @@ use runs::Check;
 use runs::RunAnswer;
 use step::Part;
 
-// Whether every instant lies between bounds around 0, as of records.
+// Whether every instant surely lies between bounds around 0, as of records.
 fn all_between(instants: &[i64], bounds: Bounds) -> bool
     requires { ⌜ AroundZero bounds ⌝ }
     ensures { λ r. ⌜ (r ≡ true → (i : ℕ) → i < length (now (instants .entry)) → let t = getD (now (instants .entry)) i (pos 0) in SFits w64 t × Between bounds (biased t)) ⌝ }
