@@ -22,16 +22,15 @@ def gregorian(year):
 
 
 def julian(year):
-    return 366 if year % 4 == 0 else 365
+    """No year 0: the years before 1 count one higher in the leap rule."""
+    return 366 if (year + 1 if year < 0 else year) % 4 == 0 else 365
 
 
 def standard(year):
-    """No year 0: the years before 1 count one higher in the leap rule. Ten days are dropped in 1582."""
+    """Ten days are dropped in 1582; before it the years are those of `julian`."""
     if year == 1582:
         return 355
-    if year > 1582:
-        return gregorian(year)
-    return julian(year + 1 if year < 0 else year)
+    return gregorian(year) if year > 1582 else julian(year)
 
 
 CALENDARS = [
@@ -45,7 +44,7 @@ CALENDARS = [
 
 
 def years_of(name):
-    return [year for year in range(FIRST, LAST + 1) if year != 0 or name != "standard"]
+    return [year for year in range(FIRST, LAST + 1) if year != 0 or name not in ("standard", "julian")]
 
 
 def year_starts(name, length):

@@ -20,6 +20,7 @@
 extern "C" {
 #endif
 
+/* Standard and julian have no year 0: year 1 comes after -1. The others have one. */
 enum {
     UPPINALO_STANDARD = 0,
     UPPINALO_PROLEPTIC_GREGORIAN = 1,

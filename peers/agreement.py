@@ -23,7 +23,6 @@ REASONS = {
     "Ours is the nearest microsecond to the exact time, which this run tests with exact fractions for every offset.",
     "s": "cftime shows a time within a microsecond of a whole second as that second. Ours is the nearest microsecond to the "
     "double's exact value; the second is often what the file's writer meant.",
-    "y": "cftime's `julian` has no year 0 by default; ours has one, as document 01 asks (request 2 of document 02 takes it away).",
     "p": "datetime64 is proleptic_gregorian: before 1582-10-15 it has other dates than `standard`, for the reference too.",
     "m": "A month is 30 days in cftime's `360_day`; a fixed month has the table's length in every calendar here.",
     "d": "UDUNITS names no month or day of a calendar for a time before the first of its Julian days, in the year -4713.",
@@ -74,8 +73,6 @@ def reason(reader, axis, reading, fields):
         return "s"
     if difference is not None and difference <= 100:
         return "r"
-    if calendar == "julian" and reading.fields.year <= 0:
-        return "y"
     is_early = min(reading.fields, fields_of(axis.reference, axis.calendar)) < (1582, 10, 15)
     if reader == "NumPy" and calendar == "standard" and is_early:
         return "p"

@@ -32,6 +32,7 @@ def cases():
         Case("whole milliseconds", "msecs since 1970-01-01", ("standard",), draw(-(10**13), 10**13)),
         Case("thirds of minutes, with a zone", "minutes since 2000-01-01 00:00 +05:30", ("standard",), draw(0, 10**8) / 3),
         Case("days about the cutover of 1582", "days since 1582-10-01", everywhere[:3], numpy.arange(COUNT) / 160),
+        Case("days about year 1", "days since 1-01-01", everywhere, numpy.arange(COUNT) - COUNT // 2),
         Case("days of all years", "days since 1970-01-01", everywhere, draw(-4_000_000, 2_800_000)),
         Case("any fraction of a day of all years", "days since 1970-01-01", everywhere[:2], random.uniform(-4e6, 2.8e6, COUNT)),
         Case("days beyond the year 9999", "days since 9990-01-01", everywhere[:2], draw(0, 8000)),

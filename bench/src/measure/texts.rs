@@ -34,7 +34,7 @@ const TEXTS: [(&str, &str); 8] = [
     ("noleap", "days since 0001-01-01 00:00:00"),
     ("360_day", "calendar months since 1930-01-30"),
     ("gregorian", "minutes since 2000-1-1 12:30:15.25 +05:30"),
-    ("julian", "calendar years since -4712-01-01 12:00 UTC"),
+    ("julian", "calendar years since -4713-01-01 12:00 UTC"),
     ("365_day", "millisecs since 1970-01-01"),
 ];
 

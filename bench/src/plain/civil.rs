@@ -18,7 +18,17 @@ fn march_year(date: Date) -> (i64, i64) {
     (date.year - (month <= 2) as i64, (153 * shifted + 2) / 5 + date.day as i64 - 1)
 }
 
-/// Days here count from 0000-03-01 of their calendar.
+/// A year of a calendar without a year 0 in a count that has one: -1 is 0, -2 is -1.
+pub fn counted(year: i64) -> i64 {
+    if year < 0 { year + 1 } else { year }
+}
+
+/// The year of such a count.
+pub fn year_of_count(count: i64) -> i64 {
+    if count <= 0 { count - 1 } else { count }
+}
+
+/// Days here count from the March 1st of their calendar that comes before year 1.
 pub fn gregorian_date(day: i64) -> Date {
     let era = day.div_euclid(146_097);
     let of_era = day.rem_euclid(146_097);
@@ -26,11 +36,13 @@ pub fn gregorian_date(day: i64) -> Date {
     of_march_year(era * 400 + year, of_era - (365 * year + year / 4 - year / 100))
 }
 
+/// Without a year 0.
 pub fn julian_date(day: i64) -> Date {
     let era = day.div_euclid(1461);
     let of_era = day.rem_euclid(1461);
     let year = (of_era - of_era / 1460) / 365;
-    of_march_year(era * 4 + year, of_era - 365 * year)
+    let date = of_march_year(era * 4 + year, of_era - 365 * year);
+    Date { year: year_of_count(date.year), ..date }
 }
 
 pub fn even_date(day: i64, length: i64) -> Date {
@@ -45,7 +57,7 @@ pub fn gregorian_day(date: Date) -> i64 {
 }
 
 pub fn julian_day(date: Date) -> i64 {
-    let (year, day) = march_year(date);
+    let (year, day) = march_year(Date { year: counted(date.year), ..date });
     year * 365 + year.div_euclid(4) + day
 }
 

@@ -7,7 +7,7 @@ use answers::{Date, DateAnswer, DayAnswer};
 const RANGES: [(i64, i64); 6] = [
     (-4_371_299, 2_932_896),
     (-4_371_587, 2_932_896),
-    (-4_371_677, 2_932_956),
+    (-4_371_312, 2_932_956),
     (-4_368_685, 2_930_949),
     (-4_380_654, 2_938_979),
     (-4_308_840, 2_890_799),
@@ -25,12 +25,12 @@ pub fn range(calendar: u32) -> (i64, i64) {
     RANGES[calendar as usize]
 }
 
+pub fn lacks_year_0(calendar: u32) -> bool {
+    calendar == 0 || calendar == 2
+}
+
 fn standard_date(day: i64) -> Date {
-    if day >= CUTOVER {
-        return gregorian_date(day + 719_468);
-    }
-    let date = julian_date(day + 719_470);
-    Date { year: if date.year <= 0 { date.year - 1 } else { date.year }, ..date }
+    if day >= CUTOVER { gregorian_date(day + 719_468) } else { julian_date(day + 719_470) }
 }
 
 fn date_of_360_days(day: i64) -> Date {
@@ -51,10 +51,8 @@ pub fn date(calendar: u32, day: i64) -> Date {
 }
 
 fn standard_day(date: Date) -> i64 {
-    if (date.year, date.month, date.day) >= (1582, 10, 15) {
-        return gregorian_day(date) - 719_468;
-    }
-    julian_day(Date { year: if date.year < 0 { date.year + 1 } else { date.year }, ..date }) - 719_470
+    let is_late = (date.year, date.month, date.day) >= (1582, 10, 15);
+    if is_late { gregorian_day(date) - 719_468 } else { julian_day(date) - 719_470 }
 }
 
 /// The day number of a date that a known calendar has.
@@ -73,8 +71,7 @@ fn is_leap(calendar: u32, year: i64) -> bool {
     let gregorian = year % 4 == 0 && (year % 100 != 0 || year % 400 == 0);
     match calendar {
         0 if year > 1582 => gregorian,
-        0 if year < 0 => (year + 1) % 4 == 0,
-        0 | 2 => year % 4 == 0,
+        0 | 2 => counted(year) % 4 == 0,
         1 => gregorian,
         3 => false,
         _ => true,
@@ -93,8 +90,8 @@ pub fn month_length(calendar: u32, year: i64, month: u32) -> u32 {
 
 pub fn exists(calendar: u32, date: Date) -> bool {
     let Date { year, month, day } = date;
-    let is_dropped = year == 1582 && month == 10 && 4 < day && day < 15;
-    if calendar == 0 && (year == 0 || is_dropped) {
+    let is_dropped = calendar == 0 && year == 1582 && month == 10 && 4 < day && day < 15;
+    if is_dropped || year == 0 && lacks_year_0(calendar) {
         return false;
     }
     (1..=12).contains(&month) && 1 <= day && day <= month_length(calendar, year, month)

@@ -1,15 +1,15 @@
 //! Whole offsets read.
 
-use super::{clock, days, period};
+use super::{civil, clock, days, period};
 use answers::{Axis, Date, Fields, Reading};
 
 /// A calendar's years in a row, with no gap at year 0.
 fn row(calendar: u32, year: i64) -> i64 {
-    if calendar == 0 && year < 0 { year + 1 } else { year }
+    if days::lacks_year_0(calendar) { civil::counted(year) } else { year }
 }
 
 fn year_of_row(calendar: u32, row: i64) -> i64 {
-    if calendar == 0 && row <= 0 { row - 1 } else { row }
+    if days::lacks_year_0(calendar) { civil::year_of_count(row) } else { row }
 }
 
 /// Months since the month 1 of row 0.

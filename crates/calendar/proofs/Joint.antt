@@ -1,9 +1,9 @@
 -- Two plain calendars joined at a day: their dates follow each other as those of a plain one do, whatever the two are, if the last
 -- day of the one comes before the first of the other.
 use mathlib.Core.Path.{_≡_, refl, sym, ap, _∙_, subst}
-use mathlib.Core.Bool.{Bool, true, false, not, _&&_, cond, true≢false}
+use mathlib.Core.Bool.{Bool, true, false, not, _&&_, cond, and-true, true≢false}
 use borrow.Author.Tests.{not-true}
-use Rattle.signed.proofs.Tests.{both, and-parts}
+use Rattle.signed.proofs.Tests.{and-parts}
 use Rattle.calendar.specs.Plain.{dayAfter, dayBefore, hasDay}
 use Rattle.calendar.specs.Calendar.{CalendarRow, earlyPart, latePart, nextBy, prevBy, existsBy}
 use Rattle.calendar.specs.Order.{earlier}
@@ -39,11 +39,13 @@ module _ (r : CalendarRow) (s : Junction r) where
           on-early (p .0) (λ b. true≢false (sym (earlier-of (r .last) d b) ∙ not-true (earlier (r .last) d) (p .1)))
       go false e h = on-late h (λ b. true≢false (sym (earlier-of d (r .first) b) ∙ e))
 
+  pub exists-early : (d : Date) → (Before (r .last) d → ⊥) → existsBy r d ≡ hasDay (earlyPart r) d
+  unfolding existsBy
+  exists-early d f = rw (earlier-of d (r .first) (below d f), not-earlier (r .last) d f) (and-true (hasDay (earlyPart r) d))
+
   pub exists-on : (d : Date) → Side r d → existsBy r d ≡ true
   unfolding existsBy
-  exists-on d (on-early h f) =
-      ap (λ (t : Bool). cond t (hasDay (earlyPart r) d && not (earlier (r .last) d)) (hasDay (latePart r) d)) (earlier-of d (r .first) (below d f))
-      ∙ both (hasDay (earlyPart r) d) (not (earlier (r .last) d)) h (ap not (not-earlier (r .last) d f))
+  exists-on d (on-early h f) = exists-early d f ∙ h
   exists-on d (on-late h f) = ap (λ (t : Bool). cond t (hasDay (earlyPart r) d && not (earlier (r .last) d)) (hasDay (latePart r) d)) (not-earlier d (r .first) f) ∙ h
 
   -- ---- the next day and the day before, by cases

@@ -1,7 +1,7 @@
 -- What is proved of the calendars, in one place. `c` is any of the six calendars, z and w any integers. Each of the first seven is a
 -- law of every row whose cutover meets `Days.Cutover`, read off for the rows of the calendars.
 use mathlib.Core.Path.{_≡_, refl, sym, ap, _∙_}
-use mathlib.Core.Bool.{Bool, true, false, _&&_, cond}
+use mathlib.Core.Bool.{Bool, true, false, _&&_, cond, true≢false}
 use Prim.Native.Nat.{ℕ, zero, suc, _+_, _-_, _<_, _^_}
 use native.Mathlib.Omega.{arith}
 use lib.IntN.{ℤ, pos, negsuc, sucℤ, subℕ, _+ℤ_, +ℤ-sucℤ, +ℤ-idr, -ℤ-+ℤ-cancel}
@@ -12,20 +12,24 @@ use Rattle.refusal.specs.declared.Refusal.the-variants.{NoSuchDate, OutOfRange}
 use Rattle.signed.proofs.Tests.{and-parts}
 use Rattle.signed.proofs.Differences.{sub-low, sub-high}
 use Rattle.calendar.specs.Plain.{lacksYear}
-use Rattle.calendar.specs.Calendar.{hasYearZero, next, prev, dateOf, DaysOn, exists, inYears, date, rowOf, nextBy, prevBy, existsBy, dateBy, epoch, times}
+use Rattle.calendar.specs.Calendar.{hasYearZero, yearAfter, next, prev, dateOf, DaysOn, exists, inYears, date, rowOf, nextBy, prevBy, existsBy, dateBy, epoch, times}
 use Rattle.calendar.specs.Order.{earlier}
 use Rattle.calendar.specs.Answers.{dayNumber, dayAnswer}
 use Rattle.calendar.specs.Closed.{yearAt, count, placeOf, label, dayPlace, counts, lateFrom, lag, ruleAt, lagAt, dayByRule, epochDay, ruleOfDay}
 use Rattle.calendar.specs.declared.Calendar.{Calendar}
+use Rattle.calendar.specs.declared.Calendar.the-variants.{Standard, Julian}
 use Rattle.calendar.specs.declared.Date.{Date}
 use Rattle.calendar.specs.declared.DayAnswer.{DayAnswer}
 use Rattle.calendar.specs.declared.place.Place.{Place}
-use Rattle.calendar.proofs.Existing.{date-eq, valid-of, valid-year}
+use Rattle.calendar.specs.declared.rule.Rule.{Rule}
+use Rattle.calendar.proofs.Ordered.{before-of, earlier-of}
+use Rattle.calendar.proofs.Existing.{date-eq, valid-of, valid-year, no-year, not-there}
 use Rattle.calendar.proofs.Labels.{year-low, year-high}
 use Rattle.calendar.proofs.Plain.{Chain}
 use Rattle.calendar.proofs.Walk as Walk
-use Rattle.calendar.proofs.Days.{placed-date, row-chain, row-start, dated-early, dated-late, late-small}
-use Rattle.calendar.proofs.Rows.{cutover}
+use Rattle.calendar.proofs.Joint.{next-early, exists-early}
+use Rattle.calendar.proofs.Days.{junction, placed-date, row-chain, row-start, dated-early, dated-late, late-small}
+use Rattle.calendar.proofs.Rows.{cutover, plain-next, plain-exists}
 use Rattle.calendar.proofs.Range as Range
 use Rattle.calendar.proofs.Range.{lowDay, highDay}
 use Rattle.calendar.proofs.Counting.{numbered}
@@ -156,3 +160,24 @@ answered c x z = go (inYears (x .year)) (exists c x) refl refl
     go true true e f h = let n : z ≡ dayNumber c x = (cc) in record { inside = e; there = f; is = ap (dateOf c) n ∙ date-of-number c x e f }
     go true false e f h = absurd (let y : _≡_ {A = ℕ} 0 1 = (cc) in omega arith)
     go false b e f h = absurd (let y : _≡_ {A = ℕ} 0 1 = (cc) in omega arith)
+
+-- ---- `julian` beside `standard`: through the last day that `standard` keeps they have the same dates, each followed by the same
+
+pub same-next : (x : Date) → earlier x (rowOf Standard .last) ≡ true → next Julian x ≡ next Standard x
+unfolding next
+same-next x h = plain-next Rule.Julian false x ∙ sym (next-early (rowOf Standard) (junction (rowOf Standard) (cutover Standard)) x (before-of x (rowOf Standard .last) h))
+
+pub same-dates : (x : Date) → earlier (rowOf Standard .last) x ≡ false → exists Julian x ≡ exists Standard x
+unfolding exists
+same-dates x h =
+    plain-exists Rule.Julian false x
+    ∙ sym (exists-early (rowOf Standard) (junction (rowOf Standard) (cutover Standard)) x (λ b. true≢false (sym (earlier-of (rowOf Standard .last) x b) ∙ h)))
+
+-- steps by years count the same years
+pub same-years : (y : ℤ) → yearAfter Julian y ≡ yearAfter Standard y
+unfolding yearAfter
+same-years y = refl
+
+-- a calendar without a year 0 has no date in it
+pub no-year-0 : (c : Calendar) (m d : ℕ) → hasYearZero c ≡ false → exists c (date (pos 0) m d) ≡ false
+no-year-0 c m d h = not-there c (date (pos 0) m d) (λ v. true≢false (sym (no-year c (pos 0) h refl) ∙ v .there))

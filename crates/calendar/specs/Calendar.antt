@@ -1,4 +1,5 @@
--- The six calendars by their next-day rule: document 01, "Calendars". Theorems tie the day before, and which dates exist, to `next`.
+-- The six calendars by their next-day rule: document 01, "Calendars", and for the years of `julian` document 02, CR 2. Theorems tie the
+-- day before, and which dates exist, to `next`.
 -- A calendar is a row: two plain calendars, of one of which it keeps the days through `last`, and of the other those from `first` on.
 use mathlib.Core.Path.{_≡_}
 use mathlib.Core.Bool.{Bool, true, false, not, _&&_, cond}
@@ -33,11 +34,11 @@ latePart r = plain (r .late) (r .zero)
 abbrev pub plainRow : Rule → Bool → CalendarRow
 plainRow r z = record { zero = z; early = r; late = r; last = date (pos 1582) 10 14; first = date (pos 1582) 10 15 }
 
--- `standard` joins the Julian calendar, through 1582-10-04, to the Gregorian from 1582-10-15 on, and lacks the year 0 that all others have
+-- `standard` joins the Julian calendar, through 1582-10-04, to the Gregorian from 1582-10-15 on; it and `julian` lack the year 0 that all others have
 abbrev pub rowOf : Calendar → CalendarRow
 rowOf Standard = record { zero = false; early = Rule.Julian; late = Rule.Gregorian; last = date (pos 1582) 10 4; first = date (pos 1582) 10 15 }
 rowOf ProlepticGregorian = plainRow Rule.Gregorian true
-rowOf Julian = plainRow Rule.Julian true
+rowOf Julian = plainRow Rule.Julian false
 rowOf NoLeap = plainRow Rule.Common true
 rowOf AllLeap = plainRow Rule.Leap true
 rowOf Day360 = plainRow Rule.Thirty true

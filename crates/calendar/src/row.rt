@@ -49,7 +49,7 @@ pub fn row_of(c: Calendar) -> CountedRow
             Rule::Gregorian,
             14,
         ),
-        Calendar::Julian => return october_row(true, Rule::Julian, Rule::Julian, 14),
+        Calendar::Julian => return october_row(false, Rule::Julian, Rule::Julian, 14),
         Calendar::NoLeap => return october_row(true, Rule::Common, Rule::Common, 14),
         Calendar::AllLeap => return october_row(true, Rule::Leap, Rule::Leap, 14),
         Calendar::Day360 => return october_row(true, Rule::Thirty, Rule::Thirty, 14),

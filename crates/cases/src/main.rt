@@ -1,6 +1,6 @@
-// Runs the cases by hand of document 01 over the library's calls. A line for each case: the calendar, the units text, the offset
-// that is read or the date that is written, and the answer. The stored output is written by hand from document 01. The cases of the
-// first two groups are proved over the definitions too (specs/Cases.antt).
+// Runs the cases by hand of document 01, and some about the years of `julian` before year 1, over the library's calls. A line for each
+// case: the calendar, the units text, the offset that is read or the date that is written, and the answer. The stored output is written
+// by hand from the documents. The cases of the first two groups are proved over the definitions too (specs/Cases.antt).
 use axis_text::AxisAnswer;
 use axis_types::Axis;
 use axis_types::Offset;
@@ -169,10 +169,28 @@ fn refused_texts() {
     read_whole(b"standard", b"days since 1970-01-01Z", 0);
 }
 
+// Year 1 comes after -1, and -1, -5, -9 are leap years (document 02, CR 2).
+fn years_of_julian() {
+    read_whole(b"julian", b"days since -1-12-31", 1);
+    read_whole(b"julian", b"days since -1-02-28", 1);
+    read_whole(b"julian", b"days since -4-02-28", 1);
+    read_whole(b"julian", b"days since -5-02-28", 1);
+    read_whole(b"julian", b"days since -9-02-28", 1);
+    read_whole(b"julian", b"calendar years since -5-02-29", 4);
+    read_whole(b"julian", b"calendar years since -5-02-29", 5);
+    read_whole(b"julian", b"calendar months since -1-12-31", 2);
+    write_date(b"julian", b"days since 1-01-01", b"-1-12-31");
+    write_date(b"julian", b"calendar years since 1-06-15", b"-2-06-15");
+    write_date(b"julian", b"days since 1970-01-01", b"-9999-01-01");
+    write_date(b"julian", b"days since 1970-01-01", b"0000-01-01");
+    read_whole(b"julian", b"days since 0000-01-01", 0);
+}
+
 fn main() {
     calendars();
     periods();
     last_days();
     written_dates();
     refused_texts();
+    years_of_julian();
 }

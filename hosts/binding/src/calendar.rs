@@ -5,6 +5,7 @@ use crate::boundary;
 use crate::refusal::{Refusal, tested};
 use answers::{Date, Fields};
 
+/// `Standard` and `Julian` have no year 0: year 1 comes after -1. The others have one.
 #[derive(Clone, Copy, PartialEq, Eq, Hash, Debug)]
 pub enum Calendar {
     Standard,

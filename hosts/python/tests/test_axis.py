@@ -1,4 +1,4 @@
-"""Axes, one offset read, offsets written: the cases by hand of document 01 and the edges of Python's numbers."""
+"""Axes, one offset read, offsets written: the cases by hand and the edges of Python's numbers."""
 
 import math
 import pickle
@@ -22,9 +22,13 @@ READ = [
     ("standard", "hours since 1930-01-01 00:30 +01:00", 1, "1930-01-01T00:30:00.000000Z"),
     ("standard", "days since 1970-01-01", 2_932_896, "9999-12-31"),
     ("360_day", "days since 1970-01-01", 2_890_799, "9999-12-30"),
+    ("julian", "days since 1-01-01", -1, "-0001-12-31"),
+    ("julian", "days since -5-02-28", 1, "-0005-02-29"),
+    ("julian", "calendar years since -5-02-29", 5, "0001-02-28"),
 ]
 REFUSED = [
     ("standard", "days since 1582-10-05", 4),
+    ("julian", "days since 0000-01-01", 4),
     ("standard", "ss since 1970", 3),
     ("standard", "days since 1970-01-01Z", 3),
     ("standard", "days since 1970-01-01" + " " * 108, 1),

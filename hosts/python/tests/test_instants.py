@@ -1,12 +1,13 @@
 """Instants, days and ISO texts."""
 
 import datetime
+import re
 import unittest
 
 from uppinalo import Calendar, Date, Fields, Reading, Refused, calendar_of, date_of_day, day_of_date, fields_of
 from uppinalo import read_iso, write_iso
 
-from .calls import needs
+from .calls import REPOSITORY, needs
 
 DAY = 86_400_000_000
 
@@ -97,6 +98,24 @@ class Names(unittest.TestCase):
             for name in names:
                 self.assertIs(calendar_of(name), calendar)
                 self.assertIs(calendar_of(name.encode()), calendar)
+
+    @needs("date_of_day", "day_of_date")
+    def test_calendars_of_the_readme(self):
+        readme = (REPOSITORY / "README.md").read_text()
+        rows = re.findall(r"^\| `(\w+)` \| (`.*`.*) \| .* \| (yes|no) \|$", readme, re.MULTILINE)
+        self.assertEqual([row[0] for row in rows], [calendar.cf_name for calendar in Calendar])
+        for calendar, (_, names, year_0) in zip(Calendar, rows):
+            listed = re.findall(r"`(\w+)`", names) + ([""] if "empty" in names else [])
+            self.assertEqual(sorted(listed), sorted(self.NAMES[calendar]))
+            before = date_of_day(day_of_date(Date(1, 1, 1), calendar) - 1, calendar)
+            self.assertEqual(before.year, 0 if year_0 == "yes" else -1)
+
+    @needs("day_of_date")
+    def test_no_year_0(self):
+        for calendar in (Calendar.STANDARD, Calendar.JULIAN):
+            with self.assertRaises(Refused) as caught:
+                day_of_date(Date(0, 1, 1), calendar)
+            self.assertEqual(caught.exception.number, 4)
 
     @needs("read_units")
     def test_unknown_names(self):

@@ -6,7 +6,10 @@ import enum
 
 
 class Calendar(enum.IntEnum):
-    """A calendar. Its ``cf_name`` is the name by which the CF conventions know it."""
+    """A calendar. Its ``cf_name`` is the name by which the CF conventions know it.
+
+    ``STANDARD`` and ``JULIAN`` have no year 0: year 1 comes after -1. The others have one.
+    """
 
     STANDARD = 0
     PROLEPTIC_GREGORIAN = 1

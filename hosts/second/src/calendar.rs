@@ -45,30 +45,20 @@ pub fn calendar_named(name: &[u8]) -> Option<Calendar> {
     }
 }
 
+/// Every fourth year; where there is no year 0, those before year 1 are -1, -5, -9 and so on.
 fn is_julian_leap(year: i64) -> bool {
-    year.rem_euclid(4) == 0
+    if year < 0 { year.rem_euclid(4) == 3 } else { year.rem_euclid(4) == 0 }
 }
 
 fn is_gregorian_leap(year: i64) -> bool {
-    is_julian_leap(year) && year.rem_euclid(100) != 0 || year.rem_euclid(400) == 0
-}
-
-/// Before 1583 `standard` is Julian in every year's length of February; its years before 1 count one higher.
-fn is_standard_leap(year: i64) -> bool {
-    if year > 1582 {
-        is_gregorian_leap(year)
-    } else if year < 0 {
-        is_julian_leap(year + 1)
-    } else {
-        is_julian_leap(year)
-    }
+    year.rem_euclid(4) == 0 && year.rem_euclid(100) != 0 || year.rem_euclid(400) == 0
 }
 
 fn is_leap(calendar: Calendar, year: i64) -> bool {
     match calendar {
-        Calendar::Standard => is_standard_leap(year),
+        Calendar::Standard if year > 1582 => is_gregorian_leap(year),
+        Calendar::Standard | Calendar::Julian => is_julian_leap(year),
         Calendar::ProlepticGregorian => is_gregorian_leap(year),
-        Calendar::Julian => is_julian_leap(year),
         Calendar::Noleap | Calendar::Day360 => false,
         Calendar::AllLeap => true,
     }

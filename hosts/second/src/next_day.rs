@@ -2,9 +2,12 @@
 
 use crate::calendar::{Calendar, Date, last_day_of_month};
 
-/// `standard` has no year 0.
+/// `standard` and `julian` have no year 0.
 fn year_after(calendar: Calendar, year: i64) -> i64 {
-    if calendar == Calendar::Standard && year == -1 { 1 } else { year + 1 }
+    match calendar {
+        Calendar::Standard | Calendar::Julian if year == -1 => 1,
+        _ => year + 1,
+    }
 }
 
 pub fn day_after(calendar: Calendar, date: Date) -> Date {

@@ -1,4 +1,4 @@
-//! The cases by hand of document 01.
+//! The cases by hand of document 01, and the years of `julian` before year 1 (document 02, CR 2).
 
 use second::axis::{Axis, Mode, Period};
 use second::calendar::{Calendar, Date};
@@ -36,6 +36,28 @@ fn days_of_each_calendar() {
     expect("julian", "days since 1900-02-28", 1, "1900-02-29");
     expect("360_day", "days since 2023-02-30", 1, "2023-03-01");
     expect("noleap", "days since 2000-02-28", 1, "2000-03-01");
+}
+
+/// Year 1 comes after -1, and -1, -5, -9 are leap years.
+#[test]
+fn years_of_julian() {
+    expect("julian", "days since -1-12-31", 1, "0001-01-01");
+    expect("julian", "days since -1-02-28", 1, "-0001-02-29");
+    expect("julian", "days since -4-02-28", 1, "-0004-03-01");
+    expect("julian", "days since -5-02-28", 1, "-0005-02-29");
+    expect("julian", "days since -9-02-28", 1, "-0009-02-29");
+    expect("julian", "calendar years since -5-02-29", 4, "-0001-02-29");
+    expect("julian", "calendar years since -5-02-29", 5, "0001-02-28");
+    expect("julian", "calendar months since -1-12-31", 2, "0001-02-28");
+    let written = |units, text: &str| {
+        let instant = read_iso(b"julian", text.as_bytes())?;
+        write_instant(axis("julian", units), instant)
+    };
+    assert_eq!(written("days since 1-01-01", "-1-12-31"), Ok(-1));
+    assert_eq!(written("calendar years since 1-06-15", "-2-06-15"), Ok(-2));
+    assert_eq!(written("days since 1970-01-01", "-9999-01-01"), Ok(-4_371_312));
+    assert_eq!(written("days since 1970-01-01", "0000-01-01"), Err(Refusal::NoSuchDate));
+    assert_eq!(read_units(b"julian", b"days since 0000-01-01").unwrap_err().number(), 4);
 }
 
 #[test]

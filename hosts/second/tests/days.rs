@@ -26,22 +26,27 @@ fn cycles() {
     let years = |calendar, from, to| day(calendar, to, 1, 1) - day(calendar, from, 1, 1);
     for from in (-9999..9599).step_by(37) {
         assert_eq!(years(Calendar::ProlepticGregorian, from, from + 400), 146_097);
-        assert_eq!(years(Calendar::Julian, from, from + 400), 146_100);
         assert_eq!(years(Calendar::Noleap, from, from + 400), 146_000);
         assert_eq!(years(Calendar::AllLeap, from, from + 400), 146_400);
         assert_eq!(years(Calendar::Day360, from, from + 400), 144_000);
     }
+    for from in (-9999..-400).chain(1..9599).step_by(37) {
+        assert_eq!(years(Calendar::Julian, from, from + 400), 146_100);
+    }
     assert_eq!(years(Calendar::Standard, 1582, 1583), 355);
-    assert_eq!(years(Calendar::Standard, -1, 1), 366);
+    for calendar in [Calendar::Standard, Calendar::Julian] {
+        assert_eq!(years(calendar, -1, 1), 366);
+        assert_eq!(years(calendar, -200, 201), 146_100);
+    }
 }
 
-/// Julian day numbers: 1970-01-01 is 2440588, 1858-11-17 is 2400001, -4713-01-01 of `standard` is 0.
+/// Julian day numbers: 1970-01-01 is 2440588, 1858-11-17 is 2400001, -4713-01-01 of `standard` and of `julian` is 0.
 #[test]
 fn julian_day_numbers() {
     assert_eq!(day(Calendar::Standard, 1858, 11, 17), 2_400_001 - 2_440_588);
     assert_eq!(day(Calendar::Standard, -4713, 1, 1), -2_440_588);
     assert_eq!(day(Calendar::Standard, 1582, 10, 15), 2_299_161 - 2_440_588);
-    assert_eq!(day(Calendar::Julian, -4712, 1, 1) - day(Calendar::Julian, 1582, 10, 4), -2_299_160);
+    assert_eq!(day(Calendar::Julian, -4713, 1, 1) - day(Calendar::Julian, 1582, 10, 4), -2_299_160);
     assert_eq!(day(Calendar::ProlepticGregorian, 1, 1, 1), -719_162);
 }
 
@@ -67,14 +72,18 @@ fn dates_that_do_not_exist() {
     for gap in 5..15 {
         none(Calendar::Standard, 1582, 10, gap);
     }
-    none(Calendar::Standard, 0, 6, 1);
+    for calendar in [Calendar::Standard, Calendar::Julian] {
+        none(calendar, 0, 6, 1);
+        none(calendar, -4, 2, 29);
+        day(calendar, -1, 2, 29);
+        day(calendar, -9, 2, 29);
+        day(calendar, 4, 2, 29);
+    }
     none(Calendar::Standard, 1900, 2, 29);
     none(Calendar::Julian, 1901, 2, 29);
     none(Calendar::AllLeap, 1901, 2, 30);
     none(Calendar::Noleap, 2000, 2, 29);
     none(Calendar::Day360, 2000, 1, 31);
-    day(Calendar::Standard, -1, 2, 29);
     day(Calendar::Standard, 1500, 2, 29);
-    day(Calendar::Julian, 0, 2, 29);
     day(Calendar::ProlepticGregorian, 0, 2, 29);
 }

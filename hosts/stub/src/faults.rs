@@ -83,13 +83,30 @@ pub fn read_units_with_space(name: &[u8], text: &[u8]) -> AxisAnswer {
     boundary::read_units(name, text.strip_suffix(b" ").unwrap_or(text))
 }
 
-/// `standard` is shown with a year 0.
-pub fn date_of_day_with_year_0(calendar: u32, day: i64) -> DateAnswer {
+/// One calendar is shown with a year 0, which it lacks.
+pub fn date_of_day_with_year_0(of: u32, calendar: u32, day: i64) -> DateAnswer {
     let mut answer = boundary::date_of_day_number(calendar, day);
-    if calendar == 0 && answer.date.year < 0 {
+    if calendar == of && answer.date.year < 0 {
         answer.date.year += 1;
     }
     answer
+}
+
+/// 0000 of `julian` counts as the year -1.
+pub fn day_of_date_julian_year_0_taken(calendar: u32, date: Date) -> DayAnswer {
+    let is_year_0 = calendar == 2 && date.year == 0;
+    boundary::day_number_of_date(calendar, if is_year_0 { Date { year: -1, ..date } } else { date })
+}
+
+/// Steps back by years over the start of year 1 count a year 0 in `julian`.
+pub fn read_whole_julian_year_0_counted(axis: Axis, offset: i64) -> Reading {
+    let right = boundary::read_whole(axis, offset);
+    let year = |instant| boundary::fields_of(axis.calendar, instant).fields.year;
+    let is_over_year_0 = right.number == 0 && year(axis.reference) > 0 && year(right.instant) < 0;
+    if (axis.calendar, axis.period, axis.mode) == (2, 7, 1) && is_over_year_0 {
+        return boundary::read_whole(axis, offset + 1);
+    }
+    right
 }
 
 /// The dropped days of 1582 count as 1582-10-15.

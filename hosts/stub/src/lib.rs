@@ -59,7 +59,10 @@ extern "C" fn uppinalo_fields_of(calendar: u32, instant: i64) -> FieldsAnswer {
 #[unsafe(no_mangle)]
 extern "C" fn uppinalo_date_of_day(calendar: u32, day: i64) -> DateAnswer {
     if faults::is_on("date_of_day_with_year_0") {
-        return faults::date_of_day_with_year_0(calendar, day);
+        return faults::date_of_day_with_year_0(0, calendar, day);
+    }
+    if faults::is_on("date_of_day_julian_with_year_0") {
+        return faults::date_of_day_with_year_0(2, calendar, day);
     }
     boundary::date_of_day_number(calendar, day)
 }
@@ -69,6 +72,9 @@ extern "C" fn uppinalo_day_of_date(calendar: u32, date: Date) -> DayAnswer {
     if faults::is_on("day_of_date_in_the_gap") {
         return faults::day_of_date_in_the_gap(calendar, date);
     }
+    if faults::is_on("day_of_date_julian_year_0_taken") {
+        return faults::day_of_date_julian_year_0_taken(calendar, date);
+    }
     boundary::day_number_of_date(calendar, date)
 }
 
@@ -76,6 +82,9 @@ extern "C" fn uppinalo_day_of_date(calendar: u32, date: Date) -> DayAnswer {
 extern "C" fn uppinalo_read_whole(axis: Axis, offset: i64) -> Reading {
     if faults::is_on("read_whole_wrapping") {
         return faults::read_whole_wrapping(axis, offset);
+    }
+    if faults::is_on("read_whole_julian_year_0_counted") {
+        return faults::read_whole_julian_year_0_counted(axis, offset);
     }
     boundary::read_whole(axis, offset)
 }
