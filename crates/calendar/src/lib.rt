@@ -154,11 +154,11 @@ pub fn year_count(zero: bool, k: u64) -> YearCount
     if zero {
         return YearCount::Is(k - (0x8000_0000_0000_0000 - 10000));
     }
-    if k < 0x8000_0000_0000_0000 {
-        return YearCount::Is(k - (0x8000_0000_0000_0000 - 10001));
-    }
     if k == 0x8000_0000_0000_0000 {
         return YearCount::Missing;
+    }
+    if k < 0x8000_0000_0000_0000 {
+        return YearCount::Is(k - (0x8000_0000_0000_0000 - 10001));
     }
     return YearCount::Is(k - (0x8000_0000_0000_0000 - 10000));
 }

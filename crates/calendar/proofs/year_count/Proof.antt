@@ -13,12 +13,12 @@ returns : tie.Need-returns
 returns c = let k = c .before .args .k in rw (c .if1 .taken) (same-diff (k - 9223372036854765808) 10000 k 9223372036854775808 (omega (arith, c .before .pre)))
 
 returns-2 : tie.Need-returns-2
-returns-2 c =
-    let k = c .before .before .args .k in
-    rw (c .before .if1 .left, le-leb (k - 9223372036854765807) 10000 (omega (arith, c .if2 .taken))) (same-diff (k - 9223372036854765807) 10001 k 9223372036854775808 (omega (arith, c .before .before .pre)))
+returns-2 c = (c .before .if1 .left, ap unbiased (c .if2 .taken))
 
 returns-3 : tie.Need-returns-3
-returns-3 c = (c .before .before .if1 .left, ap unbiased (c .if3 .taken))
+returns-3 c =
+    let k = c .before .before .before .args .k in
+    rw (c .before .before .if1 .left, le-leb (k - 9223372036854765807) 10000 (omega (arith, c .if3 .taken))) (same-diff (k - 9223372036854765807) 10001 k 9223372036854775808 (omega (arith, c .before .before .before .pre)))
 
 returns-4 : tie.Need-returns-4
 returns-4 c =
@@ -32,9 +32,9 @@ year-count-spec =
     (λ c. search needs)
     (λ c. search needs)
     returns
-    (λ c. search needs)
-    (λ c. search needs)
     returns-2
+    (λ c. search needs)
+    (λ c. search needs)
     returns-3
     (λ c. search needs)
     (λ c. search needs)
