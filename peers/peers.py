@@ -76,12 +76,22 @@ def array_times(is_stub):
     return table(["nanoseconds for each record", "read by Uppinalo", "by NumPy", "written by Uppinalo", "by NumPy"], rows)
 
 
+#: The cases that are timed, by what they are of, and the calendar of each.
+TIMED = [
+    ("hours of 250 years, as doubles in days", "standard"),
+    ("hours of 250 years, as doubles in days", "noleap"),
+    ("whole hours", "standard"),
+    ("any fraction of a second", "standard"),
+    ("calendar months", "proleptic_gregorian"),
+]
+
+
 def times(cases, is_stub):
     counts = {None: 2_000 if is_stub else 1_000_000, "cftime": 10_000, "xarray": 100_000, "NumPy": 1_000_000, "UDUNITS": 1_000_000}
-    chosen = [(0, "standard"), (0, "noleap"), (3, "standard"), (5, "standard"), (16, "proleptic_gregorian")]
+    by_name = {case.what: case for case in cases}
     rows = []
-    for place, calendar in chosen:
-        case = cases[place]
+    for what, calendar in TIMED:
+        case = by_name[what]
         best = timing.measure(case, calendar, OTHERS, {**counts, "xarray": 10_000 if calendar == "noleap" else 100_000})
         ours, *others = ["u" if figure is None else f"{figure:.{1 if figure < 100 else 0}f}" for figure in best]
         rows.append([case.what, f"`{calendar}`", "runs are not exported yet" if ours == "u" else ours, *others])

@@ -46,7 +46,7 @@ module _ (r : CalendarRow) (s : Junction r) where
   pub exists-on : (d : Date) → Side r d → existsBy r d ≡ true
   unfolding existsBy
   exists-on d (on-early h f) = exists-early d f ∙ h
-  exists-on d (on-late h f) = ap (λ (t : Bool). cond t (hasDay (earlyPart r) d && not (earlier (r .last) d)) (hasDay (latePart r) d)) (not-earlier d (r .first) f) ∙ h
+  exists-on d (on-late h f) = rw (not-earlier d (r .first) f) h
 
   -- ---- the next day and the day before, by cases
 

@@ -178,6 +178,6 @@ pub same-years : (y : ℤ) → yearAfter Julian y ≡ yearAfter Standard y
 unfolding yearAfter
 same-years y = refl
 
--- a calendar without a year 0 has no date in it
+-- a calendar without a year 0 has no date in that year
 pub no-year-0 : (c : Calendar) (m d : ℕ) → hasYearZero c ≡ false → exists c (date (pos 0) m d) ≡ false
 no-year-0 c m d h = not-there c (date (pos 0) m d) (λ v. true≢false (sym (no-year c (pos 0) h refl) ∙ v .there))

@@ -34,7 +34,8 @@ latePart r = plain (r .late) (r .zero)
 abbrev pub plainRow : Rule → Bool → CalendarRow
 plainRow r z = record { zero = z; early = r; late = r; last = date (pos 1582) 10 14; first = date (pos 1582) 10 15 }
 
--- `standard` joins the Julian calendar, through 1582-10-04, to the Gregorian from 1582-10-15 on; it and `julian` lack the year 0 that all others have
+-- `standard` joins the Julian calendar, through 1582-10-04, to the Gregorian from 1582-10-15 on. It and `julian` lack the year 0 that all
+-- others have
 abbrev pub rowOf : Calendar → CalendarRow
 rowOf Standard = record { zero = false; early = Rule.Julian; late = Rule.Gregorian; last = date (pos 1582) 10 4; first = date (pos 1582) 10 15 }
 rowOf ProlepticGregorian = plainRow Rule.Gregorian true

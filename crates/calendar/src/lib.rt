@@ -146,7 +146,8 @@ pub enum YearCount {
     Missing,
 }
 
-// The count of the year k - 2^63, with or without a year 0.
+// The count of the year k - 2^63, with or without a year 0. Year 0 is asked for first: what is left then differs by one, and needs no
+// branch.
 pub fn year_count(zero: bool, k: u64) -> YearCount
     requires { ⌜ (9223372036854765809 ≤ k) × (k ≤ 9223372036854785807) ⌝ }
     ensures { λ r. ⌜ Counted zero (unbiased k) r ⌝ }

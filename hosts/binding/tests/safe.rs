@@ -51,10 +51,7 @@ fn days() {
     );
     let first = Calendar::Julian.day_of_date(Date { year: 1, month: 1, day: 1 }).unwrap();
     assert_eq!(Calendar::Julian.date_of_day(first - 1), Ok(Date { year: -1, month: 12, day: 31 }));
-    assert_eq!(
-        Calendar::Julian.day_of_date(Date { year: 0, month: 1, day: 1 }).unwrap_err(),
-        Refusal::NoSuchDate
-    );
+    assert_eq!(Calendar::Julian.day_of_date(Date { year: 0, month: 1, day: 1 }).unwrap_err(), Refusal::NoSuchDate);
     assert_eq!(Calendar::Julian.date_of_day(i64::MAX), Err(Refusal::OutOfRange));
 }
 
