@@ -169,16 +169,23 @@ fn refused_texts() {
     read_whole(b"standard", b"days since 1970-01-01Z", 0);
 }
 
-// Year 1 comes after -1, and -1, -5, -9 are leap years (document 02, CR 2).
-fn years_of_julian() {
-    read_whole(b"julian", b"days since -1-12-31", 1);
+// ---- the years of `julian` before year 1: -1, -5, -9 are leap, and year 1 comes after -1 (document 02, CR 2)
+
+fn leap_years_of_julian() {
     read_whole(b"julian", b"days since -1-02-28", 1);
     read_whole(b"julian", b"days since -4-02-28", 1);
     read_whole(b"julian", b"days since -5-02-28", 1);
     read_whole(b"julian", b"days since -9-02-28", 1);
+}
+
+fn steps_in_julian() {
+    read_whole(b"julian", b"days since -1-12-31", 1);
     read_whole(b"julian", b"calendar years since -5-02-29", 4);
     read_whole(b"julian", b"calendar years since -5-02-29", 5);
     read_whole(b"julian", b"calendar months since -1-12-31", 2);
+}
+
+fn dates_in_julian() {
     write_date(b"julian", b"days since 1-01-01", b"-1-12-31");
     write_date(b"julian", b"calendar years since 1-06-15", b"-2-06-15");
     write_date(b"julian", b"days since 1970-01-01", b"-9999-01-01");
@@ -186,11 +193,15 @@ fn years_of_julian() {
     read_whole(b"julian", b"days since 0000-01-01", 0);
 }
 
+// ---- all of them
+
 fn main() {
     calendars();
     periods();
     last_days();
     written_dates();
     refused_texts();
-    years_of_julian();
+    leap_years_of_julian();
+    steps_in_julian();
+    dates_in_julian();
 }

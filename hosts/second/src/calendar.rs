@@ -45,7 +45,7 @@ pub fn calendar_named(name: &[u8]) -> Option<Calendar> {
     }
 }
 
-/// Every fourth year; where there is no year 0, those before year 1 are -1, -5, -9 and so on.
+/// Every fourth year, in calendars without a year 0: before year 1 these are -1, -5, -9 and so on.
 fn is_julian_leap(year: i64) -> bool {
     if year < 0 { year.rem_euclid(4) == 3 } else { year.rem_euclid(4) == 0 }
 }
