@@ -13,8 +13,7 @@ pub use Rattle.calendar.proofs.Ordered.{date-eq}
 use Rattle.calendar.proofs.YearZero as YearZero
 use Rattle.calendar.proofs.Plain as Plain
 use Rattle.calendar.proofs.Joint.{Side, on-early, on-late, side-of}
-use Rattle.calendar.proofs.Days.{junction}
-use Rattle.calendar.proofs.Rows.{cutover}
+use Rattle.calendar.proofs.Rows.{joint}
 
 -- year 0, in a calendar without one
 abbrev pub noYear : Calendar → ℤ → Bool
@@ -32,7 +31,7 @@ pub record Valid (c : Calendar) (x : Date) : Type 0 where
 
 pub valid-of : (c : Calendar) (x : Date) → exists c x ≡ true → Valid c x
 unfolding exists
-valid-of c x h = by-side (side-of (rowOf c) (junction (rowOf c) (cutover c)) x h)
+valid-of c x h = by-side (side-of (rowOf c) (joint c) x h)
   where
     by-part : (p : Plain) → p .zero ≡ hasYearZero c → hasDay p x ≡ true → Valid c x
     by-part p e g =

@@ -15,8 +15,7 @@ use Rattle.calendar.specs.declared.Date.{Date}
 use Rattle.calendar.proofs.Ordered.{date-eq, Before, by-year, by-month, by-day, before?, before-trans, not-before, Comparison, earlier-than, same-as, later-than, compare, clash, in-month}
 use Rattle.calendar.proofs.Plain.{valid-of, exists-of, long}
 use Rattle.calendar.proofs.Joint.{Junction, Side, on-early, on-late, below, side-of, exists-on}
-use Rattle.calendar.proofs.Days.{junction}
-use Rattle.calendar.proofs.Rows.{cutover}
+use Rattle.calendar.proofs.Rows.{joint}
 
 -- a month of a year that is there
 pub record Month (z : Bool) (y : ℤ) (m : ℕ) : Type 0 where
@@ -199,9 +198,9 @@ module _ (c : Calendar) (y : ℤ) (m : ℕ) (h : Month (hasYearZero c) y m) wher
   -- the first of every month exists
   pub first-there : exists c (date y m 1) ≡ true
   unfolding exists
-  first-there = first-exists (rowOf c) (junction (rowOf c) (cutover c)) (one-month c) y m h
+  first-there = first-exists (rowOf c) (joint c) (one-month c) y m h
 
   -- below a day that does not exist: the next that does, and why
   pub below-day : (d : ℕ) → 1 ≤ d → exists c (date y m d) ≡ false → Below (rowOf c) y m d
   unfolding exists
-  below-day = day-below (rowOf c) (junction (rowOf c) (cutover c)) (one-month c) y m h
+  below-day = day-below (rowOf c) (joint c) (one-month c) y m h

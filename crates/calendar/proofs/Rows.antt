@@ -16,7 +16,8 @@ use Rattle.calendar.proofs.Years.{kind-low}
 use Rattle.calendar.proofs.Tables.{month-days}
 use Rattle.calendar.proofs.Ordered.{date-eq, by-day, same-of, not-after}
 use Rattle.calendar.proofs.Plain.{long}
-use Rattle.calendar.proofs.Days.{Cutover}
+use Rattle.calendar.proofs.Joint.{Junction}
+use Rattle.calendar.proofs.Days.{Cutover, junction}
 
 name-1582 : (z : Bool) → yearAt z 11582 ≡ pos 1582
 name-1582 true = refl
@@ -64,6 +65,9 @@ cutover Julian = plain-cutover _ _
 cutover NoLeap = plain-cutover _ _
 cutover AllLeap = plain-cutover _ _
 cutover Day360 = plain-cutover _ _
+
+pub joint : (c : Calendar) → Junction (rowOf c)
+joint c = junction (rowOf c) (cutover c)
 
 -- ---- a plain row has the days of its plain calendar
 

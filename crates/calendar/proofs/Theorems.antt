@@ -28,8 +28,8 @@ use Rattle.calendar.proofs.Labels.{year-low, year-high}
 use Rattle.calendar.proofs.Plain.{Chain}
 use Rattle.calendar.proofs.Walk as Walk
 use Rattle.calendar.proofs.Joint.{next-early, exists-early}
-use Rattle.calendar.proofs.Days.{junction, placed-date, row-chain, row-start, dated-early, dated-late, late-small}
-use Rattle.calendar.proofs.Rows.{cutover, plain-next, plain-exists}
+use Rattle.calendar.proofs.Days.{placed-date, row-chain, row-start, dated-early, dated-late, late-small}
+use Rattle.calendar.proofs.Rows.{cutover, joint, plain-next, plain-exists}
 use Rattle.calendar.proofs.Range as Range
 use Rattle.calendar.proofs.Range.{lowDay, highDay}
 use Rattle.calendar.proofs.Counting.{numbered}
@@ -165,13 +165,13 @@ answered c x z = go (inYears (x .year)) (exists c x) refl refl
 
 pub same-next : (x : Date) → earlier x (rowOf Standard .last) ≡ true → next Julian x ≡ next Standard x
 unfolding next
-same-next x h = plain-next Rule.Julian false x ∙ sym (next-early (rowOf Standard) (junction (rowOf Standard) (cutover Standard)) x (before-of x (rowOf Standard .last) h))
+same-next x h = plain-next Rule.Julian false x ∙ sym (next-early (rowOf Standard) (joint Standard) x (before-of x (rowOf Standard .last) h))
 
 pub same-dates : (x : Date) → earlier (rowOf Standard .last) x ≡ false → exists Julian x ≡ exists Standard x
 unfolding exists
 same-dates x h =
     plain-exists Rule.Julian false x
-    ∙ sym (exists-early (rowOf Standard) (junction (rowOf Standard) (cutover Standard)) x (λ b. true≢false (sym (earlier-of (rowOf Standard .last) x b) ∙ h)))
+    ∙ sym (exists-early (rowOf Standard) (joint Standard) x (λ b. true≢false (sym (earlier-of (rowOf Standard .last) x b) ∙ h)))
 
 -- steps by years count the same years
 pub same-years : (y : ℤ) → yearAfter Julian y ≡ yearAfter Standard y
