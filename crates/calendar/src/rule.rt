@@ -12,7 +12,7 @@ pub enum Rule {
     Thirty,
 }
 
-// The kind of year y: a line of the table of month lengths.
+// The kind of year y: 0 common, 1 leap, 2 of 360 days.
 pub fn kind_of_year(r: Rule, y: u64) -> usize
     ensures { λ k. ⌜ k ≡ kindAt r y ⌝ }
 {
