@@ -6,18 +6,25 @@ ghost use lib.Dec.{ltb};
 ghost use Rattle.calendar.specs.Plain.{monthDays};
 ghost use Rattle.calendar.specs.Closed.{monthStart};
 
-const LENGTHS: [[u8; 12]; 3] = [
-    [31, 28, 31, 30, 31, 30, 31, 31, 30, 31, 30, 31],
-    [31, 29, 31, 30, 31, 30, 31, 31, 30, 31, 30, 31],
-    [30, 30, 30, 30, 30, 30, 30, 30, 30, 30, 30, 30],
-];
+const FEBRUARY: usize = 1;
 
-// The length of a month.
+// The length of a month. Twelve months of 30 days make a year of 360. Any other year has five or six days more, so long months of 31
+// days and short ones of 30 alternate: January is long, February short, and so on to July. August begins again with a long month, so
+// July and August are both long. That makes seven long months and 367 days, two too many for a common year and one too many for a leap
+// year; February gives them up.
 pub fn month_length(k: usize, m: usize) -> u64
     requires { ⌜ (k < 3) × (m < 12) ⌝ }
     ensures { λ r. ⌜ r ≡ monthDays k m ⌝ }
 {
-    LENGTHS[k][m] as u64
+    let turn = m as u64 % 7;
+    let length = 31 - turn % 2;
+    if k == 2 {
+        return 30;
+    }
+    if m == FEBRUARY {
+        return 28 + k as u64;
+    }
+    return length;
 }
 
 // The days by which January and February together fall short of 61: what the months after them are early by.
