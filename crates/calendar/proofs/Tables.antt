@@ -26,15 +26,15 @@ all-at p (suc n) h i g =
     ]
 
 -- a law of every kind of year
-pub by-kind : (P : ℕ → Type 0) → P 0 → P 1 → P 2 → (k : ℕ) → k < 3 → P k
+by-kind : (P : ℕ → Type 0) → P 0 → P 1 → P 2 → (k : ℕ) → k < 3 → P k
 by-kind P a b c zero h = a
 by-kind P a b c (suc zero) h = b
 by-kind P a b c (suc (suc zero)) h = c
 by-kind P a b c (suc (suc (suc k))) h = absurd (omega arith)
 
 -- a test of every month of every kind of year
-pub by-month : (p : ℕ → ℕ → Bool) → all (p 0) 12 ≡ true → all (p 1) 12 ≡ true → all (p 2) 12 ≡ true → (k m : ℕ) → k < 3 → m < 12 → p k m ≡ true
-by-month p a b c k m h g = all-at (p k) 12 (by-kind (λ (j : ℕ). all (p j) 12 ≡ true) a b c k h) m g
+pub each-month : (p : ℕ → ℕ → Bool) → all (p 0) 12 ≡ true → all (p 1) 12 ≡ true → all (p 2) 12 ≡ true → (k m : ℕ) → k < 3 → m < 12 → p k m ≡ true
+each-month p a b c k m h g = all-at (p k) 12 (by-kind (λ (j : ℕ). all (p j) 12 ≡ true) a b c k h) m g
 
 -- ---- each month has from 28 to 31 days
 
@@ -44,7 +44,7 @@ bounded k m = ltb 27 (monthDays k m) && ltb (monthDays k m) 32
 pub month-days : (k m : ℕ) → k < 3 → m < 12 → (27 < monthDays k m) × (monthDays k m < 32)
 unfolding all bounded monthDays
 month-days k m h g =
-    let w = and-parts (ltb 27 (monthDays k m)) (ltb (monthDays k m) 32) (by-month bounded refl refl refl k m h g) in
+    let w = and-parts (ltb 27 (monthDays k m)) (ltb (monthDays k m) 32) (each-month bounded refl refl refl k m h g) in
     (ltb-true 27 (monthDays k m) (w .0), ltb-true (monthDays k m) 32 (w .1))
 
 -- ---- the days before a month, without a table
@@ -57,7 +57,7 @@ started k m = eqb (monthStartOf k m) (monthStart k m)
 
 pub month-start : (k m : ℕ) → k < 3 → m < 12 → monthStartOf k m ≡ monthStart k m
 unfolding all started monthStart monthDays
-month-start k m h g = eqb-true (monthStartOf k m) (monthStart k m) (by-month started refl refl refl k m h g)
+month-start k m h g = eqb-true (monthStartOf k m) (monthStart k m) (each-month started refl refl refl k m h g)
 
 -- ---- the month of a day
 

@@ -6,7 +6,7 @@ use lib.Dec.{eqb}
 use borrow.Author.Tests.{eqb-true, eq-eqb, ne-eqb}
 use borrow.Author.Needs.{needs}
 use Rattle.calendar.specs.Plain.{monthDays}
-use Rattle.calendar.proofs.Tables.{all, by-month}
+use Rattle.calendar.proofs.Tables.{all, each-month}
 use Rattle.calendar.proofs.month.month_length.Statement.{statement}
 use Rattle.calendar.proofs.month.month_length.Tie as tie
 
@@ -17,7 +17,7 @@ monthLengthOf k m = cond (eqb k 2) 30 (cond (eqb m 1) (28 + k) (31 - m % 7 % 2))
 month-length : (k m : ℕ) → k < 3 → m < 12 → monthLengthOf k m ≡ monthDays k m
 unfolding all monthDays
 month-length k m h g =
-    let t = by-month (λ j i. eqb (monthLengthOf j i) (monthDays j i)) refl refl refl k m h g in
+    let t = each-month (λ j i. eqb (monthLengthOf j i) (monthDays j i)) refl refl refl k m h g in
     eqb-true (monthLengthOf k m) (monthDays k m) t
 
 returns : tie.Need-returns
