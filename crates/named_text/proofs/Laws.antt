@@ -4,8 +4,10 @@ use mathlib.Core.Path.{_≡_, refl, sym, ap}
 use mathlib.Core.Bool.{Bool, true, false, cond}
 use mathlib.Core.List.{List}
 use mathlib.Core.Option.{Option, none, some}
+use native.Mathlib.Omega.{arith}
 use lib.ListN.{length}
 use borrow.Author.Tests.{lt-ltb, le-ltb}
+use Rattle.refusal.specs.Number.{numberOf}
 use Rattle.refusal.specs.declared.Refusal.{Refusal}
 use Rattle.calendar.specs.declared.Calendar.{Calendar}
 use Rattle.calendar_name.specs.Names.{calendarOf}
@@ -42,19 +44,19 @@ module _ {A B : Type 0} (refuse : Refusal → A) (rule : Grammar B) (give : Cale
     pub text-underived : ((v : B) → Derives rule text v → ⊥) → readText refuse rule give name text ≡ refuse Refusal.IllFormed
     text-underived f = sym (text-read c none (text-named name text (some c) l n) (underived rule text f))
 
-  -- any text is refused, or given in the calendar of its name
-  pub text-outcome : (P : A → Type 0) → ((r : Refusal) → P (refuse r)) → ((c : Calendar) (v : B) → calendarOf name ≡ some c → P (give c v)) → P (readText refuse rule give name text)
+  -- any text is refused with 1 to 3, or given in the calendar of its name
+  pub text-outcome : (P : A → Type 0) → ((r : Refusal) → numberOf r ≤ 3 → P (refuse r)) → ((c : Calendar) (v : B) → calendarOf name ≡ some c → P (give c v)) → P (readText refuse rule give name text)
   unfolding readText textCalendar
   text-outcome P h g = long (tooLong text)
     where
       valued : (c : Calendar) → calendarOf name ≡ some c → (o : Option B) → P (byValue refuse (give c) o)
-      valued c e none = h Refusal.IllFormed
+      valued c e none = h Refusal.IllFormed (omega arith)
       valued c e (some v) = g c v e
 
       named : (q : Option Calendar) → calendarOf name ≡ q → P (inCalendar refuse give (ofName q) (read rule text))
-      named none e = h Refusal.UnknownCalendar
+      named none e = h Refusal.UnknownCalendar (omega arith)
       named (some c) e = valued c e (read rule text)
 
       long : (b : Bool) → P (inCalendar refuse give (cond b (TextCalendar.Refused Refusal.TextTooLong) (ofName (calendarOf name))) (read rule text))
-      long true = h Refusal.TextTooLong
+      long true = h Refusal.TextTooLong (omega arith)
       long false = named (calendarOf name) refl

@@ -1,5 +1,5 @@
 -- Demand 2, texts: too long, an unknown name, then ill-formed exactly where the grammar does not derive them.
-use mathlib.Core.Path.{_≡_, refl, sym, ap, _∙_}
+use mathlib.Core.Path.{_≡_, sym, ap, _∙_}
 use mathlib.Core.List.{List}
 use mathlib.Core.Option.{none, some}
 use Prim.Native.Nat.{ℕ, _≤_}
@@ -18,7 +18,7 @@ use Rattle.units_text.specs.UnitsRule.{units}
 use Rattle.units_text.specs.declared.Units.{Units}
 use Rattle.units_text.proofs.Texts.{units-clear}
 use Rattle.written_instant.specs.Instants.{writtenInstant}
-use Rattle.written_instant.proofs.Order.{written-refused}
+use Rattle.written_instant.proofs.Order.{written-outcome}
 use Rattle.iso_text.specs.Iso.{readIso}
 use Rattle.axis_text.specs.Units.{axisAt, axisOf, readUnits}
 use Rattle.axis_text.specs.declared.AxisAnswer.{AxisAnswer}
@@ -27,18 +27,10 @@ use Rattle.uppinalo.specs.Demands.{TextsByGrammar, TextsBeforeGrammar}
 
 module _ (name text : List ℕ) (c : Calendar) (l : length text ≤ 128) (n : calendarOf name ≡ some c) where
   units-later : (u : Units) → ofAxis (axisOf c u) .number ≡ 3 → ⊥
-  units-later u = go (writtenInstant c (u .reference)) refl
-    where
-      go : (a : InstantAnswer) → writtenInstant c (u .reference) ≡ a → ofAxis (axisAt c u a) .number ≡ 3 → ⊥
-      go (InstantAnswer.Is t) e h = omega arith
-      go (InstantAnswer.Refused r) e h = omega (arith, written-refused c (u .reference) r e)
+  units-later u = written-outcome c (u .reference) (λ (a : InstantAnswer). ofAxis (axisAt c u a) .number ≡ 3 → ⊥) (λ t _ h. omega arith) (λ h. omega arith) (λ h. omega arith)
 
   date-later : (w : WrittenDate) → ofInstant (writtenInstant c w) .number ≡ 3 → ⊥
-  date-later w = go (writtenInstant c w) refl
-    where
-      go : (a : InstantAnswer) → writtenInstant c w ≡ a → ofInstant a .number ≡ 3 → ⊥
-      go (InstantAnswer.Is t) e h = omega arith
-      go (InstantAnswer.Refused r) e h = omega (arith, written-refused c w r e)
+  date-later w = written-outcome c w (λ (a : InstantAnswer). ofInstant a .number ≡ 3 → ⊥) (λ t _ h. omega arith) (λ h. omega arith) (λ h. omega arith)
 
   units-is : (u : Units) → Derives units text u → readUnits name text ≡ axisOf c u
   unfolding readUnits

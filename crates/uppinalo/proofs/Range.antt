@@ -96,7 +96,7 @@ iso-inside : (name text : List ℕ) (c : Calendar) (t : ℤ) (exact : Bool) → 
 unfolding readIso
 iso-inside name text c t exact n =
     text-outcome InstantAnswer.Refused dateRule writtenInstant name text (λ (a : InstantAnswer). ofInstant a ≡ readAt t exact → inRange c t ≡ true)
-    (λ r h. absurd (not-success r (ap (λ (q : UppinaloReading). q .number) h)))
+    (λ r _ h. absurd (not-success r (ap (λ (q : UppinaloReading). q .number) h)))
     (λ b w e. go b w e (writtenInstant b w) refl)
   where
     go : (b : Calendar) (w : WrittenDate) → calendarOf name ≡ some b → (a : InstantAnswer) → writtenInstant b w ≡ a → ofInstant a ≡ readAt t exact → inRange c t ≡ true
@@ -110,7 +110,7 @@ units-inside : (name text : List ℕ) → ofAxis (readUnits name text) .number �
 unfolding readUnits
 units-inside name text =
     text-outcome AxisAnswer.Refused units axisOf name text (λ (a : AxisAnswer). ofAxis a .number ≡ 0 → (x : Axis) × (ofAxis a .axis ≡ axisCode x) × GoodReference x)
-    (λ r h. absurd (not-success r h))
+    (λ r _ h. absurd (not-success r h))
     (λ c u e. go c u (writtenInstant c (u .reference)) refl)
   where
     go : (c : Calendar) (u : Units) (a : InstantAnswer) → writtenInstant c (u .reference) ≡ a → ofAxis (axisAt c u a) .number ≡ 0 → (x : Axis) × (ofAxis (axisAt c u a) .axis ≡ axisCode x) × GoodReference x

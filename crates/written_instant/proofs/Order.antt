@@ -1,16 +1,15 @@
 -- The order of the refusals of a date that is read: its year has at most four digits, so 4 is given exactly where the date, the time or the
--- zone does not exist, and then 5 exactly where the instant after the zone lies past the years -9999 to 9999. Of any date: an instant that
--- is given lies in those years, and a refusal is one that comes after the grammar's.
+-- zone does not exist, and then 5 exactly where the instant after the zone lies past the years -9999 to 9999. Any date is
+-- given as an instant in those years, or refused with one of the two.
 use Prim.Native.Nat.{ℕ, zero, suc, _≤_}
 use native.Mathlib.Omega.{arith}
-use mathlib.Core.Path.{_≡_, refl, sym, ap, _∙_, subst}
+use mathlib.Core.Path.{_≡_, refl, sym, ap, _∙_}
 use mathlib.Core.Bool.{Bool, true, false, cond, _&&_}
 use mathlib.Core.List.{List}
 use mathlib.Core.Option.{some}
 use lib.Dec.{T}
 use lib.IntN.{ℤ, pos, _+ℤ_, _*ℤ_, _-ℤ_}
 use borrow.Author.Tests.{le-leb}
-use Rattle.refusal.specs.Number.{numberOf}
 use Rattle.refusal.specs.declared.Refusal.{Refusal}
 use Rattle.grammar.specs.Grammar.{Derives}
 use Rattle.grammar.specs.Reader.{read}
@@ -63,55 +62,35 @@ written-order c w h = rw (signed-in (w .negative) (w .year) h) (go (exists c (da
 -- ---- of any date
 
 module _ (c : Calendar) (w : WrittenDate) where
-  pub written-inside : (t : ℤ) → writtenInstant c w ≡ InstantAnswer.Is t → inRange c t ≡ true
-  unfolding writtenInstant
-  written-inside t = go (instantAnswer c (localFields w))
-    where
-      at : (u : ℤ) (b : Bool) → inRange c u ≡ b → cond b (InstantAnswer.Is u) (InstantAnswer.Refused Refusal.OutOfRange) ≡ InstantAnswer.Is t → inRange c t ≡ true
-      at u true e h = let k : u ≡ t = cc in ap (inRange c) (sym k) ∙ e
-      at u false e h = absurd (let k : _≡_ {A = ℕ} 0 1 = cc in omega arith)
-
-      zoned : (u : ℤ) (b : Bool) → cond b (ranged c u) (InstantAnswer.Refused Refusal.NoSuchDate) ≡ InstantAnswer.Is t → inRange c t ≡ true
-      zoned u true h = at u (inRange c u) refl h
-      zoned u false h = absurd (let k : _≡_ {A = ℕ} 0 1 = cc in omega arith)
-
-      go : (a : InstantAnswer) → lessZone c (w .time .zone) a ≡ InstantAnswer.Is t → inRange c t ≡ true
-      go (InstantAnswer.Is u) h = zoned (u -ℤ ahead (w .time .zone)) (isZone (w .time .zone)) h
-      go (InstantAnswer.Refused r) h = absurd (let k : _≡_ {A = ℕ} 0 1 = cc in omega arith)
-
-  -- a refusal, if there is one, has a number past 3
-  abbrev Late : InstantAnswer → Type 0
-  Late (InstantAnswer.Is t) = T true
-  Late (InstantAnswer.Refused r) = 4 ≤ numberOf r
-
-  local-late : (f : Fields) → Late (instantAnswer c f)
+  local-outcome : (P : InstantAnswer → Type 0) → ((t : ℤ) → P (InstantAnswer.Is t)) → P (InstantAnswer.Refused Refusal.NoSuchDate) → P (InstantAnswer.Refused Refusal.OutOfRange) → (f : Fields) → P (instantAnswer c f)
   unfolding instantAnswer dayAnswer
-  local-late f = go (inYears (f .year)) (exists c (dateIn f))
+  local-outcome P given missing past f = go (inYears (f .year)) (exists c (dateIn f))
     where
-      clocked : (t : ℤ) (b : Bool) → Late (cond b (InstantAnswer.Is t) (InstantAnswer.Refused Refusal.NoSuchDate))
-      clocked t true = tt
-      clocked t false = omega arith
+      clocked : (t : ℤ) (b : Bool) → P (cond b (InstantAnswer.Is t) (InstantAnswer.Refused Refusal.NoSuchDate))
+      clocked t true = given t
+      clocked t false = missing
 
-      go : (a b : Bool) → Late (withClock (cond a (cond b (DayAnswer.Is (dayNumber c (dateIn f))) (DayAnswer.Refused Refusal.NoSuchDate)) (DayAnswer.Refused Refusal.OutOfRange)) f)
+      go : (a b : Bool) → P (withClock (cond a (cond b (DayAnswer.Is (dayNumber c (dateIn f))) (DayAnswer.Refused Refusal.NoSuchDate)) (DayAnswer.Refused Refusal.OutOfRange)) f)
       go true true = clocked (instantAt (dayNumber c (dateIn f)) (clockTime f)) (isClock f)
-      go true false = omega arith
-      go false b = omega arith
+      go true false = missing
+      go false b = past
 
-  written-late : Late (writtenInstant c w)
+  -- a date as it is written is an instant in the years, or refused with 4 or 5
+  pub written-outcome : (P : InstantAnswer → Type 0) → ((t : ℤ) → inRange c t ≡ true → P (InstantAnswer.Is t)) → P (InstantAnswer.Refused Refusal.NoSuchDate) → P (InstantAnswer.Refused Refusal.OutOfRange) → P (writtenInstant c w)
   unfolding writtenInstant
-  written-late = go (instantAnswer c (localFields w)) (local-late (localFields w))
+  written-outcome P given missing past = local-outcome (λ (a : InstantAnswer). P (lessZone c (w .time .zone) a)) (λ t. zoned (t -ℤ ahead (w .time .zone)) (isZone (w .time .zone))) missing past (localFields w)
     where
-      at : (u : ℤ) (b : Bool) → Late (cond b (InstantAnswer.Is u) (InstantAnswer.Refused Refusal.OutOfRange))
-      at u true = tt
-      at u false = omega arith
+      at : (u : ℤ) (b : Bool) → inRange c u ≡ b → P (cond b (InstantAnswer.Is u) (InstantAnswer.Refused Refusal.OutOfRange))
+      at u true e = given u e
+      at u false e = past
 
-      zoned : (u : ℤ) (b : Bool) → Late (cond b (ranged c u) (InstantAnswer.Refused Refusal.NoSuchDate))
-      zoned u true = at u (inRange c u)
-      zoned u false = omega arith
+      zoned : (u : ℤ) (b : Bool) → P (cond b (ranged c u) (InstantAnswer.Refused Refusal.NoSuchDate))
+      zoned u true = at u (inRange c u) refl
+      zoned u false = missing
 
-      go : (a : InstantAnswer) → Late a → Late (lessZone c (w .time .zone) a)
-      go (InstantAnswer.Is u) h = zoned (u -ℤ ahead (w .time .zone)) (isZone (w .time .zone))
-      go (InstantAnswer.Refused r) h = h
-
-  pub written-refused : (r : Refusal) → writtenInstant c w ≡ InstantAnswer.Refused r → 4 ≤ numberOf r
-  written-refused r e = subst Late e written-late
+  pub written-inside : (t : ℤ) → writtenInstant c w ≡ InstantAnswer.Is t → inRange c t ≡ true
+  written-inside t =
+      written-outcome (λ (a : InstantAnswer). a ≡ InstantAnswer.Is t → inRange c t ≡ true)
+      (λ u e h. let k : u ≡ t = cc in ap (inRange c) (sym k) ∙ e)
+      (λ h. absurd (let k : _≡_ {A = ℕ} 0 1 = cc in omega arith))
+      (λ h. absurd (let k : _≡_ {A = ℕ} 0 1 = cc in omega arith))
