@@ -7,7 +7,7 @@
  * number  1 text over 128 bytes    2 unknown calendar    3 ill-formed text, or no such period or mode
  *         4 no such date           5 out of range        6 no such whole offset or number, or what is read is not whole
  *         7 too little room        8 double not finite   9 no whole number of records
- *        10 not-a-time
+ *        10 not-a-time           11 fragments have ended, or the state is damaged
  */
 #ifndef UPPINALO_H
 #define UPPINALO_H
@@ -48,6 +48,9 @@ typedef struct { uint32_t calendar, period, mode; int64_t reference; } uppinalo_
 typedef struct { int64_t year; uint32_t month, day; } uppinalo_date;
 typedef struct { int64_t year; uint32_t month, day, hour, minute, second, microsecond; } uppinalo_fields;
 
+/* A units text so far: `count` of its bytes, 129 once there are more than 128, and `ended`, which is 1 after the end. */
+typedef struct { uint32_t count, ended; uint8_t bytes[128]; } uppinalo_units_state;
+
 typedef struct { uint32_t number; uppinalo_axis axis; } uppinalo_axis_answer;
 typedef struct { uint32_t number; int64_t instant; bool exact; } uppinalo_reading;
 typedef struct { uint32_t number; int64_t offset; } uppinalo_offset_answer;
@@ -60,6 +63,13 @@ typedef struct { uint32_t number; size_t place, length, rounded; } uppinalo_run_
 /* Texts: the calendar's name, empty for standard, and a units text or an ISO text. */
 uppinalo_axis_answer uppinalo_read_units(const uint8_t *calendar, size_t calendar_len, const uint8_t *text, size_t text_len);
 uppinalo_reading uppinalo_read_iso(const uint8_t *calendar, size_t calendar_len, const uint8_t *text, size_t text_len);
+
+/* A units text in fragments of any lengths: start, add each, end once. The state is the caller's, and each call is lent it. The end answers
+ * as uppinalo_read_units does of the joined text, and after it, refused or not, a fragment or another end is 11. Adding answers 0 or 11,
+ * also where the text has become too long, which the end says. 11 keeps the state. */
+uppinalo_units_state uppinalo_start_units(void);
+uint32_t uppinalo_add_units(uppinalo_units_state *state, const uint8_t *fragment, size_t fragment_len);
+uppinalo_axis_answer uppinalo_end_units(uppinalo_units_state *state, const uint8_t *calendar, size_t calendar_len);
 
 /* Instants: their ISO text has 27 bytes, or 28 in negative years; bytes of the room after it stay. */
 uppinalo_length_answer uppinalo_write_iso(uint32_t calendar, int64_t instant, uint8_t *room, size_t room_len);

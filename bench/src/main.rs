@@ -1,10 +1,10 @@
 //! Prints, for each call, the nanoseconds of the proved library and of plain Rust, and their ratio.
 //! The words after the command choose what is measured; none choose all.
 
-use bench::measure::{calendars, datetime64, listing, offsets, runs, texts};
+use bench::measure::{calendars, datetime64, fragments, listing, offsets, runs, texts};
 use bench::timing;
 
-const MEASUREMENTS: [(&str, fn()); 12] = [
+const MEASUREMENTS: [(&str, fn()); 13] = [
     ("dates", calendars::dates),
     ("days", calendars::days),
     ("fields", calendars::fields),
@@ -17,6 +17,7 @@ const MEASUREMENTS: [(&str, fn()); 12] = [
     ("listing", listing::lines),
     ("growth", runs::growth),
     ("datetime64", datetime64::arrays),
+    ("fragments", fragments::fragments),
 ];
 
 fn main() {

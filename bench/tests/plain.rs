@@ -2,7 +2,7 @@
 
 use answers::*;
 use bench::plain;
-use samples::{Random, damage, datetime64, identifiers, instants};
+use samples::{Random, damage, datetime64, fragments, identifiers, instants};
 use second::boundary;
 use std::fmt::Debug;
 
@@ -116,6 +116,40 @@ fn units() {
         let text = [&starts[..], &dates, &times, &zones].map(|list| random.pick(list)).concat();
         let answer = unsafe { plain::units::read_units(name.as_ptr(), name.len(), text.as_ptr(), text.len()) };
         assert_eq!(answer, boundary::read_units(name, text.as_bytes()), "{text}");
+    }
+}
+
+/// A fragment added by both, or the end for both: the number and the axis, and the state after it.
+fn add(state: &mut UnitsState, fragment: &[u8]) {
+    let mut other = *state;
+    let number = unsafe { plain::fragments::add_units(state, fragment.as_ptr(), fragment.len()) };
+    assert_eq!(number, boundary::add_units(&mut other, fragment), "{other:?}");
+    assert_eq!(*state, other);
+}
+
+fn end(state: &mut UnitsState, name: &[u8]) {
+    let mut other = *state;
+    let answer = unsafe { plain::fragments::end_units(state, name.as_ptr(), name.len()) };
+    assert_eq!(answer, boundary::end_units(&mut other, name), "{other:?}");
+    assert_eq!(*state, other);
+}
+
+#[test]
+fn units_in_fragments() {
+    let mut random = Random::seeded(17);
+    for text in fragments::texts(&mut random, 100, 5) {
+        for (_, cut) in fragments::cuts(&mut random, &text) {
+            let mut state = plain::fragments::start_units();
+            assert_eq!(state, boundary::start_units());
+            cut.iter().for_each(|fragment| add(&mut state, fragment));
+            end(&mut state, random.pick(&["standard", "360_day", "tai"]).as_bytes());
+        }
+    }
+    for _ in 0..COUNT {
+        let mut state = fragments::state(&mut random).1;
+        add(&mut state, &fragments::fragment(&mut random));
+        end(&mut state, b"julian");
+        end(&mut state, b"julian");
     }
 }
 

@@ -5,8 +5,11 @@ use std::path::Path;
 use std::{env, fs};
 
 /// `listing` is the program target/bin/listing.
-const CALLS: [&str; 15] = [
+const CALLS: [&str; 18] = [
     "read_units",
+    "start_units",
+    "add_units",
+    "end_units",
     "read_iso",
     "write_iso",
     "fields_of",

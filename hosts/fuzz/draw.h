@@ -1,4 +1,4 @@
-/* Inputs drawn from a seed: codes, instants, offsets, texts and datetime64 arrays, good, damaged and at random. */
+/* Inputs drawn from a seed: codes, instants, offsets, texts, states of texts and datetime64 arrays, good, damaged and at random. */
 #ifndef DRAW_H
 #define DRAW_H
 
@@ -131,6 +131,32 @@ static size_t text(uint8_t *room, int is_units) {
 static size_t name(uint8_t *room) {
     size_t length = put(room, 0, PICK(NAMES));
     return below(10) == 0 ? damaged(room, length) : length;
+}
+
+/* A text, or any bytes, or none. */
+static size_t fragment(uint8_t *room) {
+    size_t length = below(6) == 0 ? 0 : (size_t)below(MOST_BYTES + 1);
+    if (below(2))
+        return text(room, 1);
+    for (size_t i = 0; i < length; i++)
+        room[i] = (uint8_t)bits();
+    return length;
+}
+
+/* The state of a text, with any bytes after those that it counts; now and then with another count, or ended. */
+static uppinalo_units_state units_state(void) {
+    uppinalo_units_state drawn;
+    uint8_t bytes[MOST_BYTES];
+    size_t length = text(bytes, 1);
+    for (size_t i = 0; i < sizeof drawn.bytes; i++)
+        drawn.bytes[i] = i < length ? bytes[i] : (uint8_t)bits();
+    drawn.count = length > sizeof drawn.bytes ? 129 : (uint32_t)length;
+    drawn.ended = 0;
+    if (below(6) == 0)
+        drawn.count = below(2) ? 120 + (uint32_t)below(16) : (uint32_t)bits();
+    if (below(6) == 0)
+        drawn.ended = below(2) ? 1 + (uint32_t)below(2) : (uint32_t)bits();
+    return drawn;
 }
 
 enum { MOST_OFFSETS = 200, RECORD = 8 };

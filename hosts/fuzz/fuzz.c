@@ -7,11 +7,14 @@
  *   - the answers are the same, the number is one of the table, and a refusal has zeros beside its number;
  *   - what is lent to be read stays, what is lent to be written is written only where the answer says, and nothing beside it;
  *   - other calls agree: an offset or a record read is written back, an element of a run reads as it does alone, a text is read
- *     back.
+ *     back, or in fragments as at once.
  * The first failure ends the run with status 1. */
 #include "lent.h"
 
 #pragma weak uppinalo_read_units
+#pragma weak uppinalo_start_units
+#pragma weak uppinalo_add_units
+#pragma weak uppinalo_end_units
 #pragma weak uppinalo_read_iso
 #pragma weak uppinalo_write_iso
 #pragma weak uppinalo_fields_of
@@ -26,7 +29,7 @@
 #pragma weak uppinalo_read_datetime64
 #pragma weak uppinalo_write_datetime64
 
-enum { MOST_NUMBER = 10, CALLS = 14 };
+enum { MOST_NUMBER = 11, CALLS = 17 };
 
 static unsigned long long turn;
 static const char *call = "";
@@ -40,7 +43,7 @@ static void require(int holds, const char *what) {
     exit(1);
 }
 
-/* Dates and fields have no padding, so their bytes can be compared. */
+/* Dates, fields and the state of a units text have no padding, so their bytes can be compared. */
 #define SAME(a, b) (memcmp(&(a), &(b), sizeof(a)) == 0)
 
 static void count(uint32_t given) {
@@ -48,7 +51,7 @@ static void count(uint32_t given) {
     answered[row][given]++;
 }
 
-static lent names, texts, sources, rooms;
+static lent names, texts, states, sources, rooms;
 
 static int is_in_range(uint32_t calendar, int64_t of) {
     return !uppinalo_fields_of || uppinalo_fields_of(calendar, of).number == 0;
@@ -65,21 +68,109 @@ static void require_reading(const uppinalo_reading *answer, uint32_t calendar) {
         require(is_in_range(calendar, answer->instant), "an instant past the range");
 }
 
+static void require_axis(const uppinalo_axis_answer *answer) {
+    uppinalo_axis of = answer->axis;
+    require(of.calendar < 6 && of.period < 8 && of.mode < 2, "an axis with an unknown code");
+    if (answer->number != 0)
+        require(of.calendar == 0 && of.period == 0 && of.mode == 0 && of.reference == 0, "a refused text with an axis");
+    else
+        require(is_in_range(of.calendar, of.reference), "a reference past the range");
+}
+
+static int is_same_axis(const uppinalo_axis_answer *a, const uppinalo_axis_answer *b) {
+    return a->number == b->number && a->axis.calendar == b->axis.calendar && a->axis.period == b->axis.period &&
+           a->axis.mode == b->axis.mode && a->axis.reference == b->axis.reference;
+}
+
 static void read_units(void) {
     uint8_t name_bytes[MOST_BYTES], text_bytes[MOST_BYTES];
     size_t n = name(name_bytes), m = text(text_bytes, 1);
     const uint8_t *first = lend(&names, name_bytes, n), *second = lend(&texts, text_bytes, m);
     uppinalo_axis_answer answer = uppinalo_read_units(first, n, second, m), again = uppinalo_read_units(first, n, second, m);
-    uppinalo_axis of = answer.axis;
     count(answer.number);
-    require(answer.number == again.number && of.reference == again.axis.reference, "two answers");
+    require(is_same_axis(&answer, &again), "two answers");
     require(is_kept_after(&names, 0) && is_kept_after(&texts, 0), "a text is changed");
-    require(of.calendar < 6 && of.period < 8 && of.mode < 2, "an axis with an unknown code");
     require(m <= 128 || answer.number == 1, "a text over 128 bytes is not refused with 1");
-    if (answer.number != 0)
-        require(of.calendar == 0 && of.period == 0 && of.mode == 0 && of.reference == 0, "a refused text with an axis");
-    else
-        require(is_in_range(of.calendar, of.reference), "a reference past the range");
+    require_axis(&answer);
+}
+
+/* That an axis is the one of the text when it is read at once. */
+static void require_at_once(const uppinalo_axis_answer *answer, const uint8_t *name, size_t n, const uint8_t *of, size_t m) {
+    if (!uppinalo_read_units)
+        return;
+    uppinalo_axis_answer at_once = uppinalo_read_units(name, n, of, m);
+    require(is_same_axis(answer, &at_once), "the text reads otherwise at once");
+}
+
+/* A text from a fresh state on, in fragments of any lengths. */
+static void start_units(void) {
+    uint8_t name_bytes[MOST_BYTES], bytes[MOST_BYTES];
+    size_t n = name(name_bytes), m = fragment(bytes), at = 0;
+    uppinalo_units_state fresh = uppinalo_start_units(), *given = lend(&states, &fresh, sizeof fresh);
+    count(0);
+    require(SAME(fresh, ((uppinalo_units_state){0})), "a fresh state that is not all zeros");
+    if (!uppinalo_add_units || !uppinalo_end_units)
+        return;
+    while (at < m || below(2)) {
+        size_t length = (size_t)below(below(2) ? 4 : m + 1);
+        length = length < m - at ? length : m - at;
+        const uint8_t *part = lend(&texts, bytes + at, length);
+        require(uppinalo_add_units(given, part, length) == 0, "a fragment is refused");
+        at += length;
+    }
+    uppinalo_axis_answer answer = uppinalo_end_units(given, name_bytes, n);
+    require(is_kept_after(&states, sizeof fresh), "what lies beside the state is changed");
+    require_at_once(&answer, name_bytes, n, bytes, m);
+}
+
+static int is_open(const uppinalo_units_state *of) { return of->ended == 0 && of->count <= 129; }
+
+/* That 11 is the answer where the state is not open, and then alone, and keeps it. */
+static void require_open(const uppinalo_units_state *before, uint32_t given) {
+    require((given != 11) == is_open(before), "11 for an open state, or not for another");
+    require(is_kept_after(&states, given != 11 ? sizeof *before : 0), "11 changes the state, or a call what lies beside it");
+}
+
+static void add_units(void) {
+    uint8_t bytes[MOST_BYTES];
+    size_t n = fragment(bytes);
+    uppinalo_units_state before = units_state(), again = before, *given = lend(&states, &before, sizeof before);
+    const uint8_t *part = lend(&texts, bytes, n);
+    uint32_t answer = uppinalo_add_units(given, part, n);
+    count(answer);
+    require(uppinalo_add_units(&again, part, n) == answer && SAME(again, *given), "two answers");
+    require(answer == 0 || answer == 11, "a fragment is neither taken nor refused with 11");
+    require(is_kept_after(&texts, 0), "the fragment is changed");
+    require_open(&before, answer);
+    if (answer != 0)
+        return;
+    uppinalo_units_state expected = before;
+    for (size_t i = 0; i < n && before.count + i < sizeof expected.bytes; i++)
+        expected.bytes[before.count + i] = bytes[i];
+    expected.count = before.count + n > sizeof expected.bytes ? 129 : before.count + (uint32_t)n;
+    require(SAME(*given, expected), "the state has not the fragment's bytes and those before them, or more is changed");
+}
+
+static void end_units(void) {
+    uint8_t name_bytes[MOST_BYTES];
+    size_t n = name(name_bytes);
+    uppinalo_units_state before = units_state(), again = before, *given = lend(&states, &before, sizeof before);
+    const uint8_t *first = lend(&names, name_bytes, n);
+    uppinalo_axis_answer answer = uppinalo_end_units(given, first, n), other = uppinalo_end_units(&again, first, n);
+    count(answer.number);
+    require(is_same_axis(&answer, &other) && SAME(again, *given), "two answers");
+    require(answer.number <= 5 || answer.number == 11, "an end is refused with another number");
+    require(is_kept_after(&names, 0), "the name is changed");
+    require_open(&before, answer.number);
+    require_axis(&answer);
+    if (answer.number == 11)
+        return;
+    uppinalo_units_state expected = before;
+    expected.ended = 1;
+    require(SAME(*given, expected), "an end that does not end, or changes more");
+    require(before.count <= 128 || answer.number == 1, "a text over 128 bytes is not refused with 1");
+    if (before.count <= 128)
+        require_at_once(&answer, first, n, before.bytes, before.count);
 }
 
 static void read_iso(void) {
@@ -353,6 +444,9 @@ typedef void (*any_call)(void);
 /* A call's name, its round, and the call itself, null where the archive does not have it. Its place is its row of `answered`. */
 static const struct { const char *name; void (*round)(void); any_call exported; } ROUNDS[] = {
     {"read_units", read_units, (any_call)uppinalo_read_units},
+    {"start_units", start_units, (any_call)uppinalo_start_units},
+    {"add_units", add_units, (any_call)uppinalo_add_units},
+    {"end_units", end_units, (any_call)uppinalo_end_units},
     {"read_iso", read_iso, (any_call)uppinalo_read_iso},
     {"write_iso", write_iso, (any_call)uppinalo_write_iso},
     {"fields_of", fields_of, (any_call)uppinalo_fields_of},
@@ -397,8 +491,8 @@ int main(int argc, char **argv) {
     }
     unsigned long long rounds = strtoull(argv[1], NULL, 10);
     state = strtoull(argv[2], NULL, 10);
-    lent *const all[] = {&names, &texts, &sources, &rooms};
-    for (int i = 0; i < 4; i++)
+    lent *const all[] = {&names, &texts, &states, &sources, &rooms};
+    for (size_t i = 0; i < sizeof all / sizeof *all; i++)
         lent_open(all[i]);
     while (turn < rounds) {
         row = (size_t)below(CALLS);

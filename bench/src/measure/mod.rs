@@ -2,6 +2,7 @@
 
 pub mod calendars;
 pub mod datetime64;
+pub mod fragments;
 pub mod listing;
 pub mod offsets;
 pub mod runs;

@@ -27,7 +27,7 @@ pub fn iso() {
     });
 }
 
-const TEXTS: [(&str, &str); 8] = [
+pub const TEXTS: [(&str, &str); 8] = [
     ("standard", "days since 1850-01-01"),
     ("", "hours since 1900-01-01 00:00:0.0"),
     ("proleptic_gregorian", "seconds since 1970-01-01T00:00:00Z"),
@@ -38,6 +38,10 @@ const TEXTS: [(&str, &str); 8] = [
     ("365_day", "millisecs since 1970-01-01"),
 ];
 
+pub fn axis_sum(AxisAnswer { number, axis }: AxisAnswer) -> u64 {
+    axis.reference as u64 ^ (number ^ axis.calendar ^ axis.period << 8 ^ axis.mode << 16) as u64
+}
+
 pub fn units() {
     if !is_exported("read_units") {
         return print_missing("units text read");
@@ -45,8 +49,7 @@ pub fn units() {
     let inputs = TEXTS.repeat(512);
     let sum = |call: ReadUnits| {
         summed(&inputs, call, |call, (name, text)| {
-            let AxisAnswer { number, axis } = unsafe { call(name.as_ptr(), name.len(), text.as_ptr(), text.len()) };
-            axis.reference as u64 ^ (number ^ axis.calendar ^ axis.period << 8 ^ axis.mode << 16) as u64
+            axis_sum(unsafe { call(name.as_ptr(), name.len(), text.as_ptr(), text.len()) })
         })
     };
     let label = "units text read, 8 texts in turn";

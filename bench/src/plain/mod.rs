@@ -8,6 +8,7 @@ pub mod datetime64;
 mod datetime64_units;
 pub mod days;
 pub mod doubles;
+pub mod fragments;
 pub mod iso;
 pub mod listing;
 pub mod period;

@@ -137,12 +137,16 @@ pub fn read(name: &[u8], text: &[u8]) -> Result<Axis, u32> {
     Ok(Axis { calendar, period, mode, reference })
 }
 
+pub fn answer(read: Result<Axis, u32>) -> AxisAnswer {
+    match read {
+        Ok(axis) => AxisAnswer { number: 0, axis },
+        Err(number) => AxisAnswer { number, ..Default::default() },
+    }
+}
+
 /// # Safety
 /// The pointers lend so many bytes each.
 #[inline(never)]
 pub unsafe extern "C" fn read_units(name: *const u8, name_len: usize, text: *const u8, text_len: usize) -> AxisAnswer {
-    match unsafe { read(lent(name, name_len), lent(text, text_len)) } {
-        Ok(axis) => AxisAnswer { number: 0, axis },
-        Err(number) => AxisAnswer { number, ..Default::default() },
-    }
+    answer(unsafe { read(lent(name, name_len), lent(text, text_len)) })
 }

@@ -6,11 +6,11 @@ use native.Mathlib.Omega.{arith}
 use lib.ListN.{getD}
 use Rattle.refusal.specs.Number.{numberOf}
 use Rattle.refusal.specs.declared.Refusal.{Refusal}
-use Rattle.refusal.specs.declared.Refusal.the-variants.{TextTooLong, UnknownCalendar, IllFormed, NoSuchDate, OutOfRange, Inexact, NoRoom, NotFinite, PartRecord, NotATime}
+use Rattle.refusal.specs.declared.Refusal.the-variants.{TextTooLong, UnknownCalendar, IllFormed, NoSuchDate, OutOfRange, Inexact, NoRoom, NotFinite, PartRecord, NotATime, NotOpen}
 
 -- the refusals in the order of their numbers, from 1
 refusals : List Refusal
-refusals = TextTooLong ∷ UnknownCalendar ∷ IllFormed ∷ NoSuchDate ∷ OutOfRange ∷ Inexact ∷ NoRoom ∷ NotFinite ∷ PartRecord ∷ NotATime ∷ []
+refusals = TextTooLong ∷ UnknownCalendar ∷ IllFormed ∷ NoSuchDate ∷ OutOfRange ∷ Inexact ∷ NoRoom ∷ NotFinite ∷ PartRecord ∷ NotATime ∷ NotOpen ∷ []
 
 numbered : ℕ → Refusal
 numbered n = getD refusals (n - 1) NotFinite
@@ -27,6 +27,7 @@ back NoRoom = refl
 back NotFinite = refl
 back PartRecord = refl
 back NotATime = refl
+back NotOpen = refl
 
 pub one-number : (r q : Refusal) → numberOf r ≡ numberOf q → r ≡ q
 one-number r q e = sym (back r) ∙ (ap numbered e ∙ back q)

@@ -14,6 +14,7 @@ pub enum Refusal {
     NotFinite,
     PartRecord,
     NotATime,
+    NotOpen,
 }
 
 // The number of a refusal; 0 is kept for success.
@@ -31,5 +32,6 @@ pub fn number(r: Refusal) -> u32
         Refusal::NotFinite => return 8,
         Refusal::PartRecord => return 9,
         Refusal::NotATime => return 10,
+        Refusal::NotOpen => return 11,
     }
 }

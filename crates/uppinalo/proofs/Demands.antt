@@ -6,6 +6,7 @@ use Rattle.uppinalo.proofs.Zeros.{refusals}
 use Rattle.uppinalo.proofs.NextDay.{dates, days-after, days}
 use Rattle.uppinalo.proofs.Writings.{writing}
 use Rattle.uppinalo.proofs.Derived.{texts, before-texts}
+use Rattle.uppinalo.proofs.InFragments.{fragments}
 use Rattle.uppinalo.proofs.Doubles.{doubles}
 use Rattle.uppinalo.proofs.Alone.{runs, past-reference}
 use Rattle.uppinalo.proofs.Range.{in-years}
@@ -26,6 +27,7 @@ demands =
       writing = writing;
       texts = texts;
       before-texts = before-texts;
+      fragments = fragments;
       doubles = doubles;
       runs = runs;
       past-reference = past-reference;

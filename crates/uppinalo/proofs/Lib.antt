@@ -1,9 +1,12 @@
+pub mod OverState
+pub mod SoFar
 pub mod Boundary
 pub mod Unnamed
 pub mod Zeros
 pub mod NextDay
 pub mod Writings
 pub mod Derived
+pub mod InFragments
 pub mod Doubles
 pub mod Alone
 pub mod Range

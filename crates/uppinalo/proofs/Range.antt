@@ -50,6 +50,8 @@ use Rattle.uppinalo.specs.Runs.{runOn, destinationOn}
 use Rattle.uppinalo.specs.Texts.{ofInstant, ofAxis}
 use Rattle.uppinalo.specs.Demands.{GoodReference, readAt, GivenInYears}
 use Rattle.uppinalo.specs.declared.texts.UppinaloReading.{UppinaloReading}
+use Rattle.uppinalo.specs.declared.texts.UppinaloAxisAnswer.{UppinaloAxisAnswer}
+use Rattle.uppinalo.proofs.SoFar.{end-outcome}
 use Rattle.uppinalo.proofs.Boundary.{read-is, reading-at}
 
 offset-inside : (x : Axis) (t : ℤ) (exact : Bool) (o : Offset) → readOn (codedAxis (axisCode x)) (λ (a : Axis). readOffset a o) ≡ readAt t exact → inRange (x .calendar) t ≡ true
@@ -106,14 +108,15 @@ iso-inside name text c t exact n =
         (λ i. inRange (sym q i) (sym (ap (λ (r : UppinaloReading). r .instant) h) i)) ∙ written-inside b w u f
     go b w e (InstantAnswer.Refused r) f h = absurd (not-success r (ap (λ (q : UppinaloReading). q .number) h))
 
-units-inside : (name text : List ℕ) → ofAxis (readUnits name text) .number ≡ 0 → (x : Axis) × (ofAxis (readUnits name text) .axis ≡ axisCode x) × GoodReference x
+-- an axis that is given is the codes of one whose reference is good
+abbrev GoodAxis : UppinaloAxisAnswer → Type 0
+GoodAxis a = a .number ≡ 0 → (x : Axis) × (a .axis ≡ axisCode x) × GoodReference x
+
+units-inside : (name text : List ℕ) → GoodAxis (ofAxis (readUnits name text))
 unfolding readUnits
-units-inside name text =
-    text-outcome AxisAnswer.Refused units axisOf name text (λ (a : AxisAnswer). ofAxis a .number ≡ 0 → (x : Axis) × (ofAxis a .axis ≡ axisCode x) × GoodReference x)
-    (λ r _ h. absurd (not-success r h))
-    (λ c u e. go c u (writtenInstant c (u .reference)) refl)
+units-inside name text = text-outcome AxisAnswer.Refused units axisOf name text (λ (a : AxisAnswer). GoodAxis (ofAxis a)) (λ r _ h. absurd (not-success r h)) (λ c u e. go c u (writtenInstant c (u .reference)) refl)
   where
-    go : (c : Calendar) (u : Units) (a : InstantAnswer) → writtenInstant c (u .reference) ≡ a → ofAxis (axisAt c u a) .number ≡ 0 → (x : Axis) × (ofAxis (axisAt c u a) .axis ≡ axisCode x) × GoodReference x
+    go : (c : Calendar) (u : Units) (a : InstantAnswer) → writtenInstant c (u .reference) ≡ a → GoodAxis (ofAxis (axisAt c u a))
     go c u (InstantAnswer.Is t) f h = (record { calendar = c; period = u .period; mode = u .mode; reference = t }, refl, written-inside c (u .reference) t f)
     go c u (InstantAnswer.Refused r) f h = absurd (not-success r h)
 
@@ -128,4 +131,5 @@ in-years =
       read-datetime64 = λ text. records-inside (typeNamed text);
       read-iso = iso-inside;
       read-units = units-inside;
+      end-units = λ s name. end-outcome s name GoodAxis (λ r h. absurd (not-success r h)) (units-inside name);
     }

@@ -35,6 +35,7 @@ use Rattle.uppinalo.specs.Days.{ofDate, ofDay, ofFields, dateByCode, day
 use Rattle.uppinalo.specs.Offsets.{ofReading, readOn, ofOffset, writeOn}
 use Rattle.uppinalo.specs.Runs.{runOn, destinationOn}
 use Rattle.uppinalo.specs.Texts.{ofInstant, ofAxis, ofLength, lengthByCode, roomByCode}
+use Rattle.uppinalo.proofs.SoFar.{end-outcome}
 use Rattle.uppinalo.specs.Demands.{DateOrZero, DayOrZero, FieldsOrZero, ReadingOrZero, OffsetOrZero, AxisOrZero, LengthOrZero, RunOrZero, ZeroBesideRefusal}
 
 of-date : (a : DateAnswer) → DateOrZero (ofDate a)
@@ -130,6 +131,7 @@ refusals =
       read-doubles = λ a. run-zero (codedAxis a) readDoubleOn;
       read-iso = λ name text. of-instant (readIso name text);
       read-units = λ name text. of-axis (readUnits name text);
+      end-units = λ s name. end-outcome s name AxisOrZero (λ r _. refl) (λ text. of-axis (readUnits name text));
       write-iso = λ calendar. length-zero (codedCalendar calendar);
       read-datetime64 = λ text. read-zero (typeNamed text);
       write-datetime64 = λ text. write-zero (typeNamed text);

@@ -41,6 +41,8 @@ use Rattle.units_text.specs.declared.Units.{Units}
 use Rattle.written_instant.specs.Instants.{writtenInstant}
 use Rattle.axis_text.specs.Units.{axisOf}
 use Rattle.axis_text.specs.declared.AxisAnswer.{AxisAnswer}
+use Rattle.units_fragments.specs.Fragments.{afterEach, concatenation}
+use Rattle.units_fragments.specs.declared.UnitsState.{UnitsState}
 use Rattle.datetime64_runs.specs.Records.{recordCount}
 use Rattle.codes.specs.Codes.{codedCalendar, codedAxis, calendarCode, axisCode}
 use Rattle.codes.specs.declared.CodedCalendar.{CodedCalendar}
@@ -50,6 +52,7 @@ use Rattle.uppinalo.specs.Days.{noDate, noDay, noFields, uppinaloDateOfD
 use Rattle.uppinalo.specs.Offsets.{noReading, noOffset, uppinaloReadWhole, uppinaloReadDouble, uppinaloWriteInstant, uppinaloWriteFields}
 use Rattle.uppinalo.specs.Runs.{noRun, uppinaloReadWholes, uppinaloReadWholesDestination, uppinaloReadDoubles, uppinaloReadDoublesDestination}
 use Rattle.uppinalo.specs.Texts.{ofInstant, ofAxis, noLength, uppinaloReadIso, uppinaloReadUnits, uppinaloWriteIso, uppinaloWriteIsoRoom}
+use Rattle.uppinalo.specs.Fragments.{uppinaloStartUnits, uppinaloAddUnits, uppinaloAddUnitsState, uppinaloEndUnits, uppinaloEndUnitsState}
 use Rattle.uppinalo.specs.Datetime64.{uppinaloReadDatetime64, uppinaloReadDatetime64Destination, uppinaloWriteDatetime64, uppinaloWriteDatetime64Records}
 use Rattle.uppinalo.specs.Arrays.{Arrays}
 use Rattle.uppinalo.specs.declared.days.UppinaloDateAnswer.{UppinaloDateAnswer}
@@ -136,6 +139,7 @@ pub record ZeroBesideRefusal : Type 0 where
   pub read-doubles : (a : UppinaloAxis) (xs : List Float) (ds : List ℤ) → RunOrZero (uppinaloReadDoubles a xs ds) ds (uppinaloReadDoublesDestination a xs ds)
   pub read-iso : (name text : List ℕ) → ReadingOrZero (uppinaloReadIso name text)
   pub read-units : (name text : List ℕ) → AxisOrZero (uppinaloReadUnits name text)
+  pub end-units : (s : UnitsState) (name : List ℕ) → AxisOrZero (uppinaloEndUnits s name)
   pub write-iso : (calendar : ℕ) (t : ℤ) (room : List ℕ) → LengthOrZero (uppinaloWriteIso calendar t room) room (uppinaloWriteIsoRoom calendar t room)
   pub read-datetime64 : (text s : List ℕ) (ds : List ℤ) → RunOrZero (uppinaloReadDatetime64 text s ds) ds (uppinaloReadDatetime64Destination text s ds)
   pub write-datetime64 : (text : List ℕ) (xs : List ℤ) (room : List ℕ) → RunOrZero (uppinaloWriteDatetime64 text xs room) room (uppinaloWriteDatetime64Records text xs room)
@@ -219,6 +223,28 @@ pub record TextsBeforeGrammar (name text : List ℕ) : Type 0 where
   pub units-name : length text ≤ 128 → calendarOf name ≡ none → uppinaloReadUnits name text ≡ ofAxis (AxisAnswer.Refused UnknownCalendar)
   pub iso-name : length text ≤ 128 → calendarOf name ≡ none → uppinaloReadIso name text ≡ ofInstant (InstantAnswer.Refused UnknownCalendar)
 
+-- ---- a units text in fragments
+
+-- a state that takes a fragment or an end: it has not ended, and its count is a possible one
+pub record OpenState (s : UnitsState) : Type 0 where
+  pub not-ended : s .ended ≡ 0
+  pub possible : s .count ≤ 129
+
+pub record TextsInFragments : Type 0 where
+  -- from a fresh state every fragment is taken, and the end answers as reading the joined text does, wherever it was cut
+  pub taken : (fs : List (List ℕ)) (f : List ℕ) → uppinaloAddUnits (afterEach uppinaloAddUnitsState uppinaloStartUnits fs) f ≡ 0
+  pub read : (fs : List (List ℕ)) (name : List ℕ) → uppinaloEndUnits (afterEach uppinaloAddUnitsState uppinaloStartUnits fs) name ≡ uppinaloReadUnits name (concatenation fs)
+  -- 11 exactly for a state that is not open, which is kept; adding is refused with nothing else
+  pub add-refused : (s : UnitsState) (f : List ℕ) → (uppinaloAddUnits s f ≡ 11) ↔ (OpenState s → ⊥)
+  pub add-taken : (s : UnitsState) (f : List ℕ) → OpenState s → uppinaloAddUnits s f ≡ 0
+  pub add-kept : (s : UnitsState) (f : List ℕ) → uppinaloAddUnits s f ≡ 11 → uppinaloAddUnitsState s f ≡ s
+  pub end-refused : (s : UnitsState) (name : List ℕ) → (uppinaloEndUnits s name .number ≡ 11) ↔ (OpenState s → ⊥)
+  pub end-kept : (s : UnitsState) (name : List ℕ) → uppinaloEndUnits s name .number ≡ 11 → uppinaloEndUnitsState s name ≡ s
+  -- any other end, refused or not, ends and changes nothing else; after an end there is neither a fragment nor an end
+  pub ends : (s : UnitsState) (name : List ℕ) → OpenState s → uppinaloEndUnitsState s name ≡ record { count = s .count; ended = 1; bytes = s .bytes }
+  pub no-fragment : (s : UnitsState) (name f : List ℕ) → uppinaloAddUnits (uppinaloEndUnitsState s name) f ≡ 11
+  pub no-second-end : (s : UnitsState) (name again : List ℕ) → uppinaloEndUnits (uppinaloEndUnitsState s name) again .number ≡ 11
+
 -- ---- demand 3: doubles on a fixed axis. A finite double is ± m * 2 ^ e, s its sign
 
 pub record DoublesRead (x : Axis) : Type 0 where
@@ -277,6 +303,7 @@ pub record GivenInYears : Type 0 where
   pub read-iso : (name text : List ℕ) (c : Calendar) (t : ℤ) (exact : Bool) → calendarOf name ≡ some c → uppinaloReadIso name text ≡ readAt t exact → inRange c t ≡ true
   -- an axis that is read is the codes of one whose reference is good
   pub read-units : (name text : List ℕ) → uppinaloReadUnits name text .number ≡ 0 → (x : Axis) × (uppinaloReadUnits name text .axis ≡ axisCode x) × GoodReference x
+  pub end-units : (s : UnitsState) (name : List ℕ) → uppinaloEndUnits s name .number ≡ 0 → (x : Axis) × (uppinaloEndUnits s name .axis ≡ axisCode x) × GoodReference x
 
 -- ---- all of them
 
@@ -291,6 +318,7 @@ pub record Demands : Type 0 where
   pub writing : (x : Axis) → GoodReference x → WritingBack x
   pub texts : (name text : List ℕ) (c : Calendar) → length text ≤ 128 → calendarOf name ≡ some c → TextsByGrammar name text c
   pub before-texts : (name text : List ℕ) → TextsBeforeGrammar name text
+  pub fragments : TextsInFragments
   pub doubles : (x : Axis) → x .mode ≡ Mode.Fixed → GoodReference x → DoublesRead x
   pub runs : (x : Axis) → GoodReference x → RunsByOffsets x
   pub past-reference : (x : Axis) → inRange (x .calendar) (x .reference) ≡ false → PastReference x

@@ -2,6 +2,7 @@
 // of these promises, and proofs/Demands.antt proves them.
 pub mod datetime64;
 pub mod days;
+pub mod fragments;
 pub mod offset_runs;
 pub mod offsets;
 pub mod texts;

@@ -52,7 +52,7 @@ pub extern "C" fn uppinalo_read_iso(calendar: &[u8], text: &[u8]) -> UppinaloRea
     of_instant(iso_text::read_iso(calendar, text))
 }
 
-fn no_axis(r: Refusal) -> UppinaloAxisAnswer
+pub(crate) fn no_axis(r: Refusal) -> UppinaloAxisAnswer
     ensures { λ a. ⌜ a ≡ noAxis r ⌝ }
 {
     let axis = UppinaloAxis {

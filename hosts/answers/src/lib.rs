@@ -29,6 +29,21 @@ pub struct Fields {
     pub microsecond: u32,
 }
 
+/// A units text so far: the number of its bytes, 129 where they do not fit, and 1 after the end.
+#[repr(C)]
+#[derive(Clone, Copy, PartialEq, Eq, Debug)]
+pub struct UnitsState {
+    pub count: u32,
+    pub ended: u32,
+    pub bytes: [u8; 128],
+}
+
+impl Default for UnitsState {
+    fn default() -> UnitsState {
+        UnitsState { count: 0, ended: 0, bytes: [0; 128] }
+    }
+}
+
 #[repr(C)]
 #[derive(Clone, Copy, PartialEq, Eq, Debug, Default)]
 pub struct AxisAnswer {

@@ -12,6 +12,8 @@ fn arguments() {
     assert_eq!(size_of::<Fields>(), 32);
     assert_eq!([offset_of!(Fields, month), offset_of!(Fields, day), offset_of!(Fields, hour)], [8, 12, 16]);
     assert_eq!([offset_of!(Fields, minute), offset_of!(Fields, second), offset_of!(Fields, microsecond)], [20, 24, 28]);
+    assert_eq!(size_of::<UnitsState>(), 136);
+    assert_eq!([offset_of!(UnitsState, ended), offset_of!(UnitsState, bytes)], [4, 8]);
 }
 
 #[test]

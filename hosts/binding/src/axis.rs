@@ -3,7 +3,7 @@
 use crate::boundary;
 use crate::calendar::Calendar;
 use crate::refusal::{Refusal, RefusedRun, tested};
-use answers::{Fields, RunAnswer};
+use answers::{AxisAnswer, Fields, RunAnswer};
 
 #[derive(Clone, Copy, PartialEq, Eq, Hash, Debug)]
 pub enum Period {
@@ -96,7 +96,10 @@ impl Run {
 impl Axis {
     /// The axis of a units text, such as `days since 1850-01-01`, in the calendar of a name.
     pub fn of_units(calendar: &str, units: &str) -> Result<Axis, Refusal> {
-        let answer = boundary::read_units(calendar.as_bytes(), units.as_bytes());
+        Axis::of_answer(boundary::read_units(calendar.as_bytes(), units.as_bytes()))
+    }
+
+    pub(crate) fn of_answer(answer: AxisAnswer) -> Result<Axis, Refusal> {
         tested(answer.number)?;
         let answers::Axis { calendar, period, mode, reference } = answer.axis;
         Ok(Axis {

@@ -8,6 +8,18 @@ pub fn read_units(calendar: &[u8], text: &[u8]) -> AxisAnswer {
     unsafe { raw::uppinalo_read_units(calendar.as_ptr(), calendar.len(), text.as_ptr(), text.len()) }
 }
 
+pub fn start_units() -> UnitsState {
+    unsafe { raw::uppinalo_start_units() }
+}
+
+pub fn add_units(state: &mut UnitsState, fragment: &[u8]) -> u32 {
+    unsafe { raw::uppinalo_add_units(state, fragment.as_ptr(), fragment.len()) }
+}
+
+pub fn end_units(state: &mut UnitsState, calendar: &[u8]) -> AxisAnswer {
+    unsafe { raw::uppinalo_end_units(state, calendar.as_ptr(), calendar.len()) }
+}
+
 pub fn read_iso(calendar: &[u8], text: &[u8]) -> Reading {
     unsafe { raw::uppinalo_read_iso(calendar.as_ptr(), calendar.len(), text.as_ptr(), text.len()) }
 }

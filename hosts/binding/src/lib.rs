@@ -13,11 +13,13 @@ mod calendar;
 pub mod datetime64;
 pub mod raw;
 mod refusal;
+mod units_reader;
 
 pub use answers::{Date, Fields};
 pub use axis::{Axis, Mode, Offset, Period, Reading, Run};
 pub use calendar::{Calendar, read_iso};
 pub use refusal::{Refusal, RefusedRun};
+pub use units_reader::UnitsReader;
 
 #[cfg(feature = "stub")]
 extern crate stub as _;

@@ -19,6 +19,9 @@ macro_rules! calls {
 
 calls! {
     "read_units" uppinalo_read_units(calendar: *const u8, calendar_len: usize, text: *const u8, text_len: usize) -> AxisAnswer;
+    "start_units" uppinalo_start_units() -> UnitsState;
+    "add_units" uppinalo_add_units(state: *mut UnitsState, fragment: *const u8, fragment_len: usize) -> u32;
+    "end_units" uppinalo_end_units(state: *mut UnitsState, calendar: *const u8, calendar_len: usize) -> AxisAnswer;
     "read_iso" uppinalo_read_iso(calendar: *const u8, calendar_len: usize, text: *const u8, text_len: usize) -> Reading;
     "write_iso" uppinalo_write_iso(calendar: u32, instant: i64, room: *mut u8, room_len: usize) -> LengthAnswer;
     "fields_of" uppinalo_fields_of(calendar: u32, instant: i64) -> FieldsAnswer;

@@ -15,6 +15,7 @@ pub enum Refusal {
     NotFinite,
     PartRecord,
     NotATime,
+    NotOpen,
     /// A number for which this crate has no name.
     Other(u32),
 }
@@ -32,6 +33,7 @@ impl Refusal {
             8 => Refusal::NotFinite,
             9 => Refusal::PartRecord,
             10 => Refusal::NotATime,
+            11 => Refusal::NotOpen,
             _ => Refusal::Other(number),
         }
     }
@@ -48,6 +50,7 @@ impl Refusal {
             Refusal::NotFinite => 8,
             Refusal::PartRecord => 9,
             Refusal::NotATime => 10,
+            Refusal::NotOpen => 11,
             Refusal::Other(number) => number,
         }
     }
@@ -68,6 +71,7 @@ impl Refusal {
             Refusal::NotFinite => "the double is a NaN or infinite",
             Refusal::PartRecord => "the bytes are no whole number of records",
             Refusal::NotATime => "the record is not-a-time",
+            Refusal::NotOpen => "the fragments of the units text have ended, or the state is damaged",
             Refusal::Other(_) => "a refusal that this crate has no words for",
         }
     }

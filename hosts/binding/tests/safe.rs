@@ -1,5 +1,6 @@
 //! The safe wrapper, call by call, on cases by hand of document 01. A call that the archive does not export yet is not tried.
 
+use std::io::Write;
 use uppinalo::*;
 
 const NOON: i64 = 43_200_000_000;
@@ -32,6 +33,7 @@ fn words() {
         NotFinite,
         PartRecord,
         NotATime,
+        NotOpen,
     ] {
         let row = format!("\n| {} | {} |\n", refusal.number(), refusal.words());
         assert!(readme.contains(&row), "{refusal}");
@@ -75,6 +77,44 @@ fn units() {
     assert_eq!(Axis::of_units("tai", "days since 1970"), Err(Refusal::UnknownCalendar));
     assert_eq!(Axis::of_units("", "ss since 1970"), Err(Refusal::IllFormed));
     assert_eq!(Axis::of_units("", &"d".repeat(129)), Err(Refusal::TextTooLong));
+}
+
+#[test]
+fn units_in_fragments() {
+    if !are_exported(&["start_units", "add_units", "end_units"]) {
+        return;
+    }
+    let (name, text) = ("360_day", "calendar months since 1970-01-01 12:00");
+    let expected = Ok(axis(Calendar::Day360, Period::Month, Mode::Calendar, NOON));
+    let mut reader = UnitsReader::new();
+    reader.add(&text.as_bytes()[..13]);
+    reader.add(b"");
+    let mut other = reader.clone();
+    reader.add(&text.as_bytes()[13..]);
+    assert_eq!(reader.end(name), expected);
+    other.extend(text.as_bytes()[13..].chunks(1));
+    assert_eq!(other.end(name), expected);
+    let mut reader = UnitsReader::default();
+    assert_eq!(std::io::copy(&mut text.as_bytes(), &mut reader).unwrap(), 38);
+    reader.flush().unwrap();
+    assert_eq!(reader.clone().end("tai"), Err(Refusal::UnknownCalendar));
+    assert_eq!(reader.end(name), expected);
+    assert_eq!(UnitsReader::new().end(""), Err(Refusal::IllFormed));
+}
+
+/// Bytes past the 128th are taken too, and the end refuses the text for them.
+#[test]
+fn units_in_long_fragments() {
+    if !are_exported(&["start_units", "add_units", "end_units"]) {
+        return;
+    }
+    let mut reader = UnitsReader::new();
+    write!(reader, "s since{:>121}", "1970").unwrap();
+    assert_eq!(reader.clone().end("standard"), Ok(axis(Calendar::Standard, Period::Second, Mode::Fixed, 0)));
+    reader.write_all(b"Z").unwrap();
+    assert_eq!(reader.clone().end("tai"), Err(Refusal::TextTooLong));
+    reader.extend([&[b' '; 5000][..], b"s since 1970"]);
+    assert_eq!(reader.end(""), Err(Refusal::TextTooLong));
 }
 
 #[test]

@@ -1,9 +1,8 @@
 //! A datetime64 array lent to both programs, and every lent byte afterwards.
 
-use crate::lent::{Lender, Side};
+use crate::lent::Lender;
 use crate::run::Run;
 use answers::RunAnswer;
-use samples::Random;
 use std::fmt::{Debug, Formatter};
 
 pub const MOST_BYTES: usize = 10_000;
@@ -34,10 +33,6 @@ pub struct Arrays<'a, A, B> {
     lenders: [Lender; 3],
 }
 
-fn side(random: &mut Random) -> Side {
-    if random.one_in(2) { Side::Start } else { Side::End }
-}
-
 impl<'a, A: Copy + Default + PartialEq + Debug, B: Copy + PartialEq> Arrays<'a, A, B> {
     pub fn of(run: &'a mut Run, archive: Call<A, B>, second: Call<A, B>, element: fn(u64) -> B) -> Arrays<'a, A, B> {
         let lenders = [(); 3].map(|()| Lender::with_room(MOST_BYTES));
@@ -51,9 +46,9 @@ impl<'a, A: Copy + Default + PartialEq + Debug, B: Copy + PartialEq> Arrays<'a, 
         let all = [&vec![A::default(); before], input.source].concat();
         let room: Vec<B> = (0..before + input.room).map(|_| (self.element)(random.bits())).collect();
         let [for_name, for_source, for_room] = &mut self.lenders;
-        let name = for_name.lend(input.identifier, side(random));
-        let source = for_source.lend(&all, side(random));
-        let lent = for_room.lend(&room, side(random));
+        let name = for_name.lend(input.identifier, random);
+        let source = for_source.lend(&all, random);
+        let lent = for_room.lend(&room, random);
         let ours = (self.archive)(name.buffer, &source.buffer[before..], &mut lent.buffer[before..]);
         let mut expected = room;
         let second = (self.second)(input.identifier, input.source, &mut expected[before..]);

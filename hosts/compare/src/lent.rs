@@ -1,6 +1,7 @@
 //! Buffers to lend: each ends, or begins, where memory that cannot be touched begins or ends, and on its other side lie
 //! bytes whose change is noticed. A read or a write past that side of the buffer ends the process.
 
+use samples::Random;
 use std::ffi::{c_int, c_long, c_void};
 use std::slice;
 
@@ -24,12 +25,6 @@ const CANARY: u8 = 0xa5;
 /// So many bytes beside the buffer are watched.
 const WATCHED: usize = 64;
 
-#[derive(Clone, Copy)]
-pub enum Side {
-    Start,
-    End,
-}
-
 pub struct Lender {
     start: *mut u8,
     size: usize,
@@ -49,14 +44,12 @@ impl Lender {
         }
     }
 
-    /// A buffer with these elements, at one side of the room.
-    pub fn lend<T: Copy + PartialEq>(&mut self, elements: &[T], side: Side) -> Lent<'_, T> {
+    /// A buffer with these elements, at one side of the room or the other.
+    pub fn lend<T: Copy + PartialEq>(&mut self, elements: &[T], random: &mut Random) -> Lent<'_, T> {
         let bytes = size_of_val(elements);
         assert!(bytes + WATCHED <= self.size);
-        let (at, watched) = match side {
-            Side::Start => (0, bytes),
-            Side::End => (self.size - bytes, self.size - bytes - WATCHED),
-        };
+        let end = self.size - bytes;
+        let (at, watched) = if random.one_in(2) { (0, bytes) } else { (end, end - WATCHED) };
         unsafe {
             let watched = slice::from_raw_parts_mut(self.start.add(watched), WATCHED);
             watched.fill(CANARY);

@@ -9,11 +9,13 @@ mod arrays;
 mod axes;
 mod calendars;
 mod datetime64;
+mod fragments;
 mod lent;
 mod listing;
 mod offsets;
 mod run;
 mod runs;
+mod states;
 mod texts;
 mod writing;
 
@@ -22,13 +24,16 @@ use std::process::ExitCode;
 
 type Comparison = (&'static str, fn(&mut Run));
 
-const COMPARISONS: [Comparison; 15] = [
+const COMPARISONS: [Comparison; 18] = [
     ("date_of_day", calendars::date_of_day),
     ("day_of_date", calendars::day_of_date),
     ("fields_of", calendars::fields_of),
     ("write_iso", texts::write_iso),
     ("read_iso", texts::read_iso),
     ("read_units", texts::read_units),
+    ("start_units", fragments::start_units),
+    ("add_units", fragments::add_units),
+    ("end_units", fragments::end_units),
     ("read_whole", offsets::read_whole),
     ("read_double", offsets::read_double),
     ("write_instant", writing::write_instant),

@@ -1,7 +1,7 @@
 //! Runs: long and short, good and with refused offsets, with room enough or not; every lent byte afterwards.
 
 use crate::axes;
-use crate::lent::{Lender, Side};
+use crate::lent::Lender;
 use crate::run::Run;
 use answers::{Axis, RunAnswer};
 use samples::{Random, doubles, wholes};
@@ -33,10 +33,6 @@ impl<T: Debug> Debug for Input<T> {
     }
 }
 
-fn side(random: &mut Random) -> Side {
-    if random.one_in(2) { Side::Start } else { Side::End }
-}
-
 fn length(random: &mut Random) -> usize {
     let most = random.pick(&[1, 4, 20, 200, MOST as u64]);
     random.below(most + 1) as usize
@@ -52,8 +48,8 @@ fn one_run<T: Copy + PartialEq + Debug>(
 ) {
     let [from, to] = lenders;
     run.on(input.axis, input.source.len() as u64);
-    let source = from.lend(&input.source, side(&mut run.random));
-    let destination = to.lend(&input.destination, side(&mut run.random));
+    let source = from.lend(&input.source, &mut run.random);
+    let destination = to.lend(&input.destination, &mut run.random);
     let ours = (calls.archive)(input.axis, source.buffer, destination.buffer);
     let mut expected = input.destination.clone();
     let second = (calls.second)(input.axis, &input.source, &mut expected);

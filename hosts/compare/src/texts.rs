@@ -1,7 +1,7 @@
 //! Texts read and written, each in a lent buffer.
 
 use crate::axes;
-use crate::lent::{Lender, Side};
+use crate::lent::Lender;
 use crate::run::Run;
 use samples::texts;
 use second::boundary;
@@ -11,7 +11,7 @@ use uppinalo::boundary as archive;
 const MOST: usize = 2000;
 
 /// A calendar name and a text.
-struct Input<'a>(&'a [u8], &'a [u8]);
+pub struct Input<'a>(pub &'a [u8], pub &'a [u8]);
 
 impl Debug for Input<'_> {
     fn fmt(&self, out: &mut Formatter) -> std::fmt::Result {
@@ -26,10 +26,6 @@ struct Calls<A> {
     number: fn(&A) -> u32,
 }
 
-fn side(run: &mut Run) -> Side {
-    if run.random.one_in(2) { Side::Start } else { Side::End }
-}
-
 /// Both read the text; nothing lent is changed.
 fn one_text<A: PartialEq + Debug>(
     run: &mut Run,
@@ -39,8 +35,8 @@ fn one_text<A: PartialEq + Debug>(
     calls: &Calls<A>,
 ) {
     let [for_name, for_text] = lenders;
-    let name = for_name.lend(input.0, side(run));
-    let text = for_text.lend(input.1, side(run));
+    let name = for_name.lend(input.0, &mut run.random);
+    let text = for_text.lend(input.1, &mut run.random);
     let ours = (calls.archive)(name.buffer, text.buffer);
     let second = (calls.second)(input.0, input.1);
     run.judge(kind, (calls.number)(&second), &input, ours, second);
@@ -77,7 +73,7 @@ fn one_writing(run: &mut Run, lender: &mut Lender, kind: &'static str, calendar:
     let random = &mut run.random;
     let length = random.pick_or_below(&[0, 1, 10, 20, 26, 27, 27, 28, 28, 29, 40], 100) as usize;
     let before: Vec<u8> = (0..length).map(|_| random.bits() as u8).collect();
-    let room = lender.lend(&before, side(run));
+    let room = lender.lend(&before, random);
     let ours = archive::write_iso(calendar, instant, room.buffer);
     let mut expected = before;
     let second = boundary::write_iso(calendar, instant, &mut expected);

@@ -14,9 +14,10 @@ class Examples(unittest.TestCase):
         result = doctest.testmod(module, optionflags=doctest.ELLIPSIS)
         self.assertEqual((result.failed, result.attempted), (0, count))
 
-    @needs("read_units", "read_whole", "read_double", "write_instant", "write_iso")
+    @needs("read_units", "read_whole", "read_double", "write_instant", "write_iso", "fields_of")
+    @needs("start_units", "add_units", "end_units")
     def test_examples(self):
-        self.examples(uppinalo, 7)
+        self.examples(uppinalo, 12)
 
     @needs("read_datetime64", "write_datetime64")
     def test_examples_of_datetime64(self):

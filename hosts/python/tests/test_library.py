@@ -14,6 +14,7 @@ STRUCTS = {
     "axis": _library.AxisCodes,
     "date": _library.DateNumbers,
     "fields": _library.FieldNumbers,
+    "units_state": _library.UnitsState,
     "axis_answer": _library.AxisAnswer,
     "reading": _library.ReadingAnswer,
     "offset_answer": _library.OffsetAnswer,
@@ -24,6 +25,7 @@ STRUCTS = {
     "run_answer": _library.RunAnswer,
 }
 KINDS = {
+    "uint8_t": ctypes.c_uint8,
     "uint32_t": ctypes.c_uint32,
     "int64_t": ctypes.c_int64,
     "size_t": ctypes.c_size_t,
@@ -37,8 +39,15 @@ def fields(body):
     """The fields that the body of a struct in the header declares."""
     for declaration in filter(None, map(str.strip, body.split(";"))):
         kind, names = declaration.split(None, 1)
-        for name in names.split(","):
-            yield name.strip(), KINDS[kind]
+        for name, length in re.findall(r"(\w+)(?:\[(\d+)\])?", names):
+            yield name, KINDS[kind] * int(length) if length else KINDS[kind]
+
+
+def argument_kind(argument):
+    """What an argument in the header is, or None for a pointer to elements."""
+    kind, name = argument.rsplit(None, 1)
+    pointed = ctypes.POINTER(KINDS[kind]) if kind == "uppinalo_units_state" else None
+    return pointed if name.startswith("*") else KINDS[kind]
 
 
 class Header(unittest.TestCase):
@@ -49,13 +58,12 @@ class Header(unittest.TestCase):
             self.assertEqual(list(fields(body)), list(STRUCTS[name]._fields_), name)
 
     def test_calls(self):
-        found = re.findall(r"^uppinalo_(\w+) uppinalo_(\w+)\(([^)]*)\);", HEADER, re.MULTILINE)
+        found = re.findall(r"^(\w+) uppinalo_(\w+)\(([^)]*)\);", HEADER, re.MULTILINE)
         self.assertEqual(sorted(name for _, name, _ in found), sorted(_library.CALLS))
         for answer, name, arguments in found:
-            kinds = [argument.rsplit(None, 1) for argument in arguments.split(",")]
-            expected = [None if "*" in argument else KINDS[kind.strip()] for kind, argument in kinds]
+            expected = [argument_kind(argument.strip()) for argument in arguments.split(",") if argument != "void"]
             restype, argtypes = _library.CALLS[name]
-            self.assertIs(restype, STRUCTS[answer], name)
+            self.assertIs(restype, KINDS[answer], name)
             self.assertEqual(len(argtypes), len(expected), name)
             for declared, kind in zip(argtypes, expected):
                 self.assertTrue(declared is kind or kind is None, name)

@@ -1,4 +1,4 @@
-"""What has the wrong type is a TypeError, whatever it is; and threads may share all."""
+"""What has the wrong type is a TypeError, whatever it is; and threads may share an axis, and have readers of their own."""
 
 import array
 import datetime
@@ -7,7 +7,7 @@ import fractions
 import threading
 import unittest
 
-from uppinalo import Axis, Calendar, Date, Fields, Mode, Period, Reading, calendar_of, date_of_day, day_of_date
+from uppinalo import Axis, Calendar, Date, Fields, Mode, Period, Reading, UnitsReader, calendar_of, date_of_day, day_of_date
 from uppinalo import fields_of, read_datetime64, read_iso, write_datetime64, write_iso
 
 from .calls import needs
@@ -26,12 +26,20 @@ class WrongTypes(unittest.TestCase):
             self.refused(fields_of, 0, calendar)
             self.refused(write_iso, 0, calendar)
             self.refused(Axis.of, calendar, Period.DAY, Mode.FIXED, 0)
+            self.refused(UnitsReader, calendar=calendar)
 
     def test_texts(self):
         for text in (None, 0, 1.5, True, [], bytearray(b"1970"), memoryview(b"1970")):
             self.refused(read_iso, text)
             self.refused(Axis, text)
             self.refused(Axis, "days since 1970", calendar=text)
+
+    @needs("start_units", "add_units")
+    def test_fragments(self):
+        for fragment in (None, 0, 1.5, True, "days", [], [b"days"], object(), array.array("d", [1.0]), array.array("i", [1])):
+            self.refused(UnitsReader().add, fragment)
+        self.refused(UnitsReader().add)
+        self.refused(UnitsReader, b"days")
 
     def test_instants_and_days(self):
         for number in [*NO_NUMBERS, 1.0, 1.5]:
@@ -86,20 +94,35 @@ class WrongTypes(unittest.TestCase):
         self.refused(axis.write, Reading(0.5, True, Calendar.NOLEAP))
 
 
+def in_threads(work):
+    """All that four threads find."""
+    found = []
+    threads = [threading.Thread(target=lambda: found.extend(work())) for _ in range(4)]
+    for thread in threads:
+        thread.start()
+    for thread in threads:
+        thread.join()
+    return found
+
+
 class Threads(unittest.TestCase):
     @needs("read_units", "read_doubles")
     def test_threads_share_an_axis(self):
         axis = Axis("hours since 1900-01-01", calendar="julian")
         offsets = [n / 7 for n in range(2000)]
         expected = axis.read_run(offsets).instants
-        found = []
-
-        def work():
-            found.extend(axis.read_run(offsets).instants == expected for _ in range(20))
-
-        threads = [threading.Thread(target=work) for _ in range(4)]
-        for thread in threads:
-            thread.start()
-        for thread in threads:
-            thread.join()
+        found = in_threads(lambda: [axis.read_run(offsets).instants == expected for _ in range(20)])
         self.assertEqual(found, [True] * 80)
+
+    @needs("read_units", "start_units", "add_units", "end_units", "fields_of")
+    def test_threads_have_readers_of_their_own(self):
+        text = b"calendar months since 1930-01-30"
+        expected = Axis(text)
+
+        def read():
+            reader = UnitsReader()
+            for byte in text:
+                reader.add(bytes([byte]))
+            return reader.end() == expected
+
+        self.assertEqual(in_threads(lambda: [read() for _ in range(20)]), [True] * 80)

@@ -11,7 +11,8 @@
     uppinalo.Refused: refused 6: no whole offset or number of the unit reads as the instant; ...
 
 The work is done by a proved library, ``libuppinalo.so``; this package lends it Python's numbers, texts and arrays. Whatever
-the library refuses is the exception ``Refused``, and what has the wrong type a TypeError. It may be used from many threads.
+the library refuses is the exception ``Refused``, and what has the wrong type a TypeError. It may be used from many threads, each
+``UnitsReader`` from one at a time.
 """
 
 from ._axis import Axis
@@ -20,6 +21,7 @@ from ._datetime64 import read_datetime64, write_datetime64
 from ._instants import Date, Fields, Reading, calendar_of, date_of_day, day_of_date, fields_of, read_iso, write_iso
 from ._refused import WORDS, Refused
 from ._runs import Run
+from ._units_reader import UnitsReader
 
 __all__ = [
     "Axis",
@@ -31,6 +33,7 @@ __all__ = [
     "Reading",
     "Refused",
     "Run",
+    "UnitsReader",
     "WORDS",
     "calendar_of",
     "date_of_day",
@@ -42,5 +45,5 @@ __all__ = [
     "write_iso",
 ]
 
-for _name in ("Axis", "Calendar", "Date", "Fields", "Mode", "Period", "Reading", "Refused", "Run"):
+for _name in ("Axis", "Calendar", "Date", "Fields", "Mode", "Period", "Reading", "Refused", "Run", "UnitsReader"):
     globals()[_name].__module__ = __name__

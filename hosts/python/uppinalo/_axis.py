@@ -2,15 +2,26 @@
 
 from __future__ import annotations
 
-from typing import Any, Optional, Union
+from typing import Any, Optional, Tuple, Union
 
 from ._codes import Calendar, Mode, Period
-from ._instants import CalendarOrName, Fields, Reading, calendar_of, field_numbers, fields_of
+from ._instants import CalendarOrName, Fields, Reading, calendar_of, field_numbers, fields_of, name_of
 from ._lent import Lent
-from ._library import AxisCodes, call
+from ._library import AxisAnswer, AxisCodes, call
 from ._numbers import Text, double, encoded, is_whole, signed
 from ._refused import Refused
 from ._runs import Instants, Offsets, Run, lendable, lent_room, room_for
+
+#: A calendar, a period, a mode and a reference instant.
+Parts = Tuple[Calendar, Period, Mode, int]
+
+
+def parts_read(answer: AxisAnswer, subject: str) -> Parts:
+    """The parts of the axis that a units text is read as."""
+    if answer.number:
+        raise Refused(answer.number, subject)
+    axis = answer.axis
+    return Calendar(axis.calendar), Period(axis.period), Mode(axis.mode), axis.reference
 
 
 class Axis:
@@ -27,13 +38,10 @@ class Axis:
     __slots__ = ("_codes", "_key")
 
     def __init__(self, units: Text, calendar: CalendarOrName = Calendar.STANDARD) -> None:
-        name = calendar.cf_name if isinstance(calendar, Calendar) else calendar
+        name = name_of(calendar)
         name_bytes, text = encoded(name, "a calendar"), encoded(units, "a units text")
         answer = call["read_units"](name_bytes, len(name_bytes), text, len(text))
-        if answer.number:
-            raise Refused(answer.number, f"units {units!r}, calendar {name!r}")
-        axis = answer.axis
-        self._set(Calendar(axis.calendar), Period(axis.period), Mode(axis.mode), axis.reference)
+        self._set(*parts_read(answer, f"units {units!r}, calendar {name!r}"))
 
     @classmethod
     def of(cls, calendar: CalendarOrName, period: Period, mode: Mode, reference: int) -> Axis:

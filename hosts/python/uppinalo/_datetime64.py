@@ -8,7 +8,7 @@ import sys
 from typing import Any, Optional
 
 from ._codes import Calendar
-from ._lent import Lent
+from ._lent import Lent, contiguous
 from ._library import RunAnswer, call
 from ._numbers import Text, encoded
 from ._refused import Refused
@@ -89,11 +89,7 @@ def _records(data: Any, identifier: Optional[Text]) -> tuple[Any, bytes]:
             return records.view(numpy.int64), _own_identifier(records, identifier)
         source = records
     else:
-        try:
-            view = memoryview(data)
-        except TypeError:
-            raise TypeError(f"records must be bytes or a datetime64 array, not {type(data).__name__}") from None
-        source = data if view.c_contiguous else view.tobytes()
+        source = contiguous(data, "records must be bytes or a datetime64 array")
     if identifier is None:
         raise TypeError("records that are not in a datetime64 array need an identifier, such as '<M8[ns]'")
     return source, encoded(identifier, "an identifier")

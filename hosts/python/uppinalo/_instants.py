@@ -45,6 +45,11 @@ def _named(name: bytes) -> Calendar:
     return Calendar(answer.axis.calendar)
 
 
+def name_of(calendar: CalendarOrName) -> Text:
+    """The name by which a text is read in a calendar. Whether there is such a calendar, the reading says."""
+    return calendar.cf_name if isinstance(calendar, Calendar) else calendar
+
+
 def calendar_of(calendar: CalendarOrName) -> Calendar:
     """A calendar as it is, or by its name; the empty name is ``standard``."""
     if isinstance(calendar, Calendar):
@@ -117,7 +122,7 @@ class Reading:
 
 def read_iso(text: Text, calendar: CalendarOrName = Calendar.STANDARD) -> Reading:
     """The instant that an ISO text names in a calendar. The text has a year, and may have a month, a day, a time and a zone."""
-    name = calendar.cf_name if isinstance(calendar, Calendar) else calendar
+    name = name_of(calendar)
     name_bytes, text_bytes = encoded(name, "a calendar"), encoded(text, "an ISO text")
     answer = call["read_iso"](name_bytes, len(name_bytes), text_bytes, len(text_bytes))
     if answer.number:

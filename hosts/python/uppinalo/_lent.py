@@ -75,9 +75,23 @@ class Lent:
         return form in ("B", "b", "c", "s", "x", "q", "Q", "l", "L") and self._buffer.element_bytes in (1, 8)
 
     @property
+    def is_bytes(self) -> bool:
+        """Whether the elements are bytes."""
+        return self.is_raw and self._buffer.element_bytes == 1
+
+    @property
     def is_aligned(self) -> bool:
         return (self.start or 0) % 8 == 0
 
     def overlaps(self, other: Lent) -> bool:
         mine, others = self.start or 0, other.start or 0
         return max(mine, others) < min(mine + self.size, others + other.size)
+
+
+def contiguous(data: Any, wrong: str) -> Any:
+    """What is bytes-like, as it is, or a copy of its bytes where they have gaps between them or another order."""
+    try:
+        view = memoryview(data)
+    except TypeError:
+        raise TypeError(f"{wrong}, not {type(data).__name__}") from None
+    return data if view.c_contiguous else view.tobytes()

@@ -27,6 +27,10 @@ class FieldNumbers(Structure):
     ]
 
 
+class UnitsState(Structure):
+    _fields_ = [("count", c_uint32), ("ended", c_uint32), ("bytes", c_uint8 * 128)]
+
+
 class AxisAnswer(Structure):
     _fields_ = [("number", c_uint32), ("axis", AxisCodes)]
 
@@ -66,6 +70,9 @@ _RECORDS = [c_char_p, c_size_t, c_void_p, c_size_t, c_void_p, c_size_t]
 #: For each call, its answer and its arguments.
 CALLS: dict[str, tuple[Any, list[Any]]] = {
     "read_units": (AxisAnswer, _TEXTS),
+    "start_units": (UnitsState, []),
+    "add_units": (c_uint32, [POINTER(UnitsState), c_void_p, c_size_t]),
+    "end_units": (AxisAnswer, [POINTER(UnitsState), c_char_p, c_size_t]),
     "read_iso": (ReadingAnswer, _TEXTS),
     "write_iso": (LengthAnswer, [c_uint32, c_int64, POINTER(c_uint8), c_size_t]),
     "fields_of": (FieldsAnswer, [c_uint32, c_int64]),

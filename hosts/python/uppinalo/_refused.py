@@ -16,6 +16,7 @@ WORDS = {
     8: "the double is a NaN or infinite",
     9: "the bytes are no whole number of records",
     10: "the record is not-a-time",
+    11: "the fragments of the units text have ended, or the state is damaged",
 }
 
 

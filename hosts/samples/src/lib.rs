@@ -4,6 +4,7 @@ pub mod damage;
 pub mod dates;
 pub mod datetime64;
 pub mod doubles;
+pub mod fragments;
 pub mod identifiers;
 pub mod instants;
 pub mod lines;

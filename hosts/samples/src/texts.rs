@@ -49,10 +49,9 @@ fn derived_units(random: &mut Random) -> String {
     format!("{calendar}{period}{plural}{since}{}", date(random))
 }
 
-/// The text with spaces put in until it has a length around the bound of 128 bytes.
-fn stretched(random: &mut Random, text: Vec<u8>) -> Vec<u8> {
-    let target: usize = random.pick(&[120, 127, 128, 128, 129, 129, 130, 200, 1000]);
-    let more = target.saturating_sub(text.len());
+/// The text with spaces put in until it has a length.
+fn stretched(text: Vec<u8>, length: usize) -> Vec<u8> {
+    let more = length.saturating_sub(text.len());
     match text.iter().position(|&byte| byte == b' ') {
         Some(space) => [&text[..space], &vec![b' '; more][..], &text[space..]].concat(),
         None => [text, vec![b'0'; more]].concat(),
@@ -63,7 +62,10 @@ fn stretched(random: &mut Random, text: Vec<u8>) -> Vec<u8> {
 fn chosen(random: &mut Random, derived: Vec<u8>) -> (&'static str, Vec<u8>) {
     match random.below(16) {
         0 => ("any bytes", any_bytes(random)),
-        1 => ("length around 128", stretched(random, derived)),
+        1 => {
+            let length = random.pick(&[120, 127, 128, 128, 129, 129, 130, 200, 1000]);
+            ("length around 128", stretched(derived, length))
+        }
         2 => {
             let once = damaged(random, derived).1;
             ("changed twice", damaged(random, once).1)
@@ -77,6 +79,11 @@ fn chosen(random: &mut Random, derived: Vec<u8>) -> (&'static str, Vec<u8>) {
 pub fn units(random: &mut Random) -> (&'static str, Vec<u8>) {
     let derived = derived_units(random).into_bytes();
     chosen(random, derived)
+}
+
+/// A units text of a length, if that is not too short for it.
+pub fn units_of_length(random: &mut Random, length: usize) -> Vec<u8> {
+    stretched(derived_units(random).into_bytes(), length)
 }
 
 /// An ISO text and its kind.

@@ -7,13 +7,22 @@ use crate::days::{date_of_day, day_of_date};
 use crate::reading::Reading;
 use crate::refusal::Refusal;
 use crate::runs::Refused;
-use crate::{datetime64, instant, iso, reading, runs, units_text, writing};
+use crate::{datetime64, fragments, instant, iso, reading, runs, units_text, writing};
 
 pub fn read_units(calendar: &[u8], text: &[u8]) -> answers::AxisAnswer {
-    match units_text::read_units(calendar, text) {
-        Ok(axis) => answers::AxisAnswer { number: 0, axis: axis_codes(axis) },
-        Err(refusal) => answers::AxisAnswer { number: refusal.number(), ..Default::default() },
-    }
+    axis_answer(units_text::read_units(calendar, text))
+}
+
+pub fn start_units() -> answers::UnitsState {
+    fragments::start()
+}
+
+pub fn add_units(state: &mut answers::UnitsState, fragment: &[u8]) -> u32 {
+    fragments::add(state, fragment).map_or_else(Refusal::number, |()| 0)
+}
+
+pub fn end_units(state: &mut answers::UnitsState, calendar: &[u8]) -> answers::AxisAnswer {
+    axis_answer(fragments::end(state, calendar))
 }
 
 pub fn read_iso(calendar: &[u8], text: &[u8]) -> answers::Reading {

@@ -22,9 +22,16 @@ pub fn axis_of(codes: answers::Axis) -> Result<Axis, Refusal> {
     Ok(Axis { calendar, period, mode, reference: codes.reference })
 }
 
-pub fn axis_codes(axis: Axis) -> answers::Axis {
+fn axis_codes(axis: Axis) -> answers::Axis {
     let Axis { calendar, period, mode, reference } = axis;
     answers::Axis { calendar: calendar as u32, period: period as u32, mode: mode as u32, reference }
+}
+
+pub fn axis_answer(result: Result<Axis, Refusal>) -> answers::AxisAnswer {
+    match result {
+        Ok(axis) => answers::AxisAnswer { number: 0, axis: axis_codes(axis) },
+        Err(refusal) => answers::AxisAnswer { number: refusal.number(), ..Default::default() },
+    }
 }
 
 pub fn date_numbers(date: Date) -> answers::Date {

@@ -4,6 +4,7 @@
 //! - Day numbers come from a table that the next-day rule fills day by day (`days`).
 //! - A double is an exact fraction of big integers (`dyadic`), and rounding compares exact remainders (`nearest`).
 //! - A text is matched in every way that its grammar allows (`ways`, `date_text`, `units_text`, `datetime64_type`).
+//! - Of a text in fragments each byte is put at its place alone (`fragments`).
 //! - Writing searches for the offset, or the number of a record, among the readings (`writing`, `datetime64`).
 //!
 //! `boundary` has a counterpart for each call of the C boundary. It is slow, and nothing in it is proved.
@@ -18,6 +19,7 @@ pub mod datetime64;
 pub mod datetime64_type;
 pub mod days;
 pub mod dyadic;
+pub mod fragments;
 pub mod instant;
 pub mod integer;
 pub mod iso;

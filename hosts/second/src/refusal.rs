@@ -12,6 +12,7 @@ pub enum Refusal {
     NotFinite = 8,
     PartRecord = 9,
     NotATime = 10,
+    NotOpen = 11,
 }
 
 impl Refusal {

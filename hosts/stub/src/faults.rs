@@ -1,6 +1,7 @@
 //! Faults that the comparison tests must find, one at a time: UPPINALO_FAULT names it, and the call with the fault has the name's start.
 
 pub mod datetime64;
+pub mod fragments;
 
 use answers::*;
 use second::boundary;

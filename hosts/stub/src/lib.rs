@@ -31,6 +31,24 @@ unsafe extern "C" fn uppinalo_read_units(
 }
 
 #[unsafe(no_mangle)]
+extern "C" fn uppinalo_start_units() -> UnitsState {
+    faults::fragments::start()
+}
+
+#[unsafe(no_mangle)]
+unsafe extern "C" fn uppinalo_add_units(state: *mut UnitsState, fragment: *const u8, fragment_len: usize) -> u32 {
+    if faults::is_on("add_units_past_the_state") && fragment_len > 128 {
+        unsafe { state.add(1).cast::<u8>().write(0) };
+    }
+    unsafe { faults::fragments::add(&mut *state, lent(fragment, fragment_len)) }
+}
+
+#[unsafe(no_mangle)]
+unsafe extern "C" fn uppinalo_end_units(state: *mut UnitsState, name: *const u8, name_len: usize) -> AxisAnswer {
+    unsafe { faults::fragments::end(&mut *state, lent(name, name_len)) }
+}
+
+#[unsafe(no_mangle)]
 unsafe extern "C" fn uppinalo_read_iso(name: *const u8, name_len: usize, text: *const u8, text_len: usize) -> Reading {
     let (name, text) = unsafe { (lent(name, name_len), lent(text, text_len)) };
     if faults::is_on("read_iso_lower_case") {

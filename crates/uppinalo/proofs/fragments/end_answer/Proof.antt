@@ -1,0 +1,14 @@
+-- `uppinalo::fragments::end_answer` meets its contract.
+use borrow.Author.Needs.{needs}
+use mathlib.Core.Path.{sym, _∙_}
+use Rattle.uppinalo.proofs.fragments.end_answer.Statement.{statement}
+use Rattle.uppinalo.proofs.fragments.end_answer.Tie as tie
+
+returns : tie.Need-returns
+returns c = rw (sym (c .before .before .is-open .ensures) ∙ c .before .if1 .taken) (c .read-so-far .ensures)
+
+returns-2 : tie.Need-returns-2
+returns-2 c = rw (sym (c .before .before .is-open .ensures) ∙ c .before .if1 .left) (c .no-axis .ensures)
+
+pub end-answer-spec : {M : Type 1} → statement M
+end-answer-spec = tie.close (tie.spec (λ c κs. search needs) (λ c κs. search needs) returns (λ c κs. search needs) returns-2)

@@ -1,0 +1,31 @@
+-- What the calls about a units text in fragments answer, and the state that each leaves, which are the definitions of crate `units_fragments`.
+use mathlib.Core.Bool.{cond}
+use mathlib.Core.List.{List}
+use Prim.Native.Nat.{ℕ}
+use lib.Dec.{ltb}
+use lib.ListN.{take}
+use Rattle.refusal.specs.Number.{numberOf}
+use Rattle.refusal.specs.declared.Refusal.the-variants.{TextTooLong, NotOpen}
+use Rattle.units_fragments.specs.Fragments.{freshState, isOpen, afterFragment, afterEnd}
+use Rattle.units_fragments.specs.declared.UnitsState.{UnitsState}
+use Rattle.uppinalo.specs.Texts.{noAxis, uppinaloReadUnits}
+use Rattle.uppinalo.specs.declared.texts.UppinaloAxisAnswer.{UppinaloAxisAnswer}
+
+abbrev pub uppinaloStartUnits : UnitsState
+uppinaloStartUnits = freshState
+
+abbrev pub uppinaloAddUnits : UnitsState → List ℕ → ℕ
+uppinaloAddUnits s fragment = cond (isOpen s) 0 (numberOf NotOpen)
+
+abbrev pub uppinaloAddUnitsState : UnitsState → List ℕ → UnitsState
+uppinaloAddUnitsState s fragment = afterFragment s fragment
+
+-- what the bytes so far say; a text of more than 128 bytes is too long, whatever its bytes are
+abbrev pub readSoFar : UnitsState → List ℕ → UppinaloAxisAnswer
+readSoFar s calendar = cond (ltb 128 (s .count)) (noAxis TextTooLong) (uppinaloReadUnits calendar (take (s .count) (s .bytes)))
+
+abbrev pub uppinaloEndUnits : UnitsState → List ℕ → UppinaloAxisAnswer
+uppinaloEndUnits s calendar = cond (isOpen s) (readSoFar s calendar) (noAxis NotOpen)
+
+abbrev pub uppinaloEndUnitsState : UnitsState → List ℕ → UnitsState
+uppinaloEndUnitsState s calendar = afterEnd s

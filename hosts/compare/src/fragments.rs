@@ -1,0 +1,92 @@
+//! Units texts in fragments: every cut, lengths about 128 bytes and greater, what comes after the end, and states as no calls leave
+//! them. The end must also answer as the archive's own reading of the joined text.
+
+use crate::run::Run;
+use crate::states::{Calls, States};
+use crate::texts::Input;
+use answers::AxisAnswer;
+use samples::fragments::{cuts, fragment, state, texts};
+use samples::texts::calendar_name;
+use second::boundary;
+use std::ptr::null;
+use uppinalo::{boundary as archive, raw};
+
+const ADD: Calls<u32> = Calls { archive: archive::add_units, second: boundary::add_units, number: |&number| number };
+const END: Calls<AxisAnswer> =
+    Calls { archive: archive::end_units, second: boundary::end_units, number: |answer| answer.number };
+/// Those with a null pointer to no bytes.
+const ADD_NULL: Calls<u32> = Calls { archive: |state, _| unsafe { raw::uppinalo_add_units(state, null(), 0) }, ..ADD };
+const END_NULL: Calls<AxisAnswer> =
+    Calls { archive: |state, _| unsafe { raw::uppinalo_end_units(state, null(), 0) }, ..END };
+
+pub fn start_units(run: &mut Run) {
+    for _ in 0..run.count(100_000, 2_000_000) {
+        let (_, mut other) = state(&mut run.random);
+        archive::add_units(&mut other, &fragment(&mut run.random));
+        archive::end_units(&mut other, b"");
+        run.judge("after calls with another state", 0, &other, archive::start_units(), boundary::start_units());
+    }
+}
+
+fn add_each(states: &mut States, kind: &'static str, fragments: &[&[u8]]) {
+    states.state = boundary::start_units();
+    for fragment in fragments {
+        states.compare(kind, &ADD, fragment);
+    }
+}
+
+fn add_after_the_end(states: &mut States) {
+    let fragment = fragment(&mut states.run.random);
+    states.compare("a fragment after the end", &ADD, &fragment);
+    states.compare("an empty fragment after the end", &ADD, b"");
+}
+
+pub fn add_units(run: &mut Run) {
+    let mut states = States::of(run);
+    let (of_any, of_each_length) = (states.run.count(15_000, 300_000), states.run.count(8, 160));
+    for text in texts(&mut states.run.random, of_any, of_each_length) {
+        for (kind, fragments) in cuts(&mut states.run.random, &text) {
+            add_each(&mut states, kind, &fragments);
+        }
+        boundary::end_units(&mut states.state, b"");
+        add_after_the_end(&mut states);
+    }
+    for _ in 0..states.run.count(200_000, 4_000_000) {
+        let (kind, state) = state(&mut states.run.random);
+        let fragment = fragment(&mut states.run.random);
+        states.state = state;
+        states.compare(kind, &ADD, &fragment);
+        states.compare("null pointer", &ADD_NULL, b"");
+    }
+}
+
+/// The end of what was added, and then more.
+fn end(states: &mut States, kind: &'static str, fragments: &[&[u8]]) {
+    let name = calendar_name(&mut states.run.random);
+    let answer = states.compare(kind, &END, &name);
+    let text = fragments.concat();
+    let is_same = answer == archive::read_units(&name, &text);
+    states.run.expect(kind, &Input(&name, &text), is_same, "the joined text reads otherwise");
+    let name = calendar_name(&mut states.run.random);
+    states.compare("a second end", &END, &name);
+    add_after_the_end(states);
+}
+
+pub fn end_units(run: &mut Run) {
+    let mut states = States::of(run);
+    let (of_any, of_each_length) = (states.run.count(4_000, 60_000), states.run.count(2, 30));
+    for text in texts(&mut states.run.random, of_any, of_each_length) {
+        for (kind, fragments) in cuts(&mut states.run.random, &text) {
+            add_each(&mut states, "fragments before the end", &fragments);
+            end(&mut states, kind, &fragments);
+        }
+    }
+    for _ in 0..states.run.count(100_000, 1_500_000) {
+        let (kind, state) = state(&mut states.run.random);
+        let name = calendar_name(&mut states.run.random);
+        states.state = state;
+        states.compare(kind, &END, &name);
+        states.state = state;
+        states.compare("null pointer", &END_NULL, b"");
+    }
+}
