@@ -1,8 +1,8 @@
 /* The C boundary of Uppinalo.
  *
- * Every answer is a struct by value. Its `number` is 0, or that of a refusal, and then every other field is zero, but for
- * the place of a run's refused offset, and nothing lent is written. A lent run or text may be empty, with a null pointer.
- * Lent buffers do not overlap.
+ * Every answer is a struct by value, or its number alone. The number is 0, or that of a refusal, and then every other field is zero,
+ * but for the place of a run's refused offset, and nothing lent is written, but for the state of a units text that a refused end ends.
+ * A lent run or text may be empty, with a null pointer. Lent buffers do not overlap.
  *
  * number  1 text over 128 bytes    2 unknown calendar    3 ill-formed text, or no such period or mode
  *         4 no such date           5 out of range        6 no such whole offset or number, or what is read is not whole

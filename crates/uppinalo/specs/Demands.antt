@@ -97,6 +97,8 @@ pub record OtherCalendar (calendar : ℕ) : Type 0 where
 
 -- ---- demand 1: a refused answer has zeros beside its number, and what was lent to be written is as it was
 
+-- the state of a text in fragments is not meant (document 02, CR 4): `TextsInFragments` says what a refused call leaves of it
+
 abbrev pub IsRefused : ℕ → Type 0
 IsRefused number = number ≡ 0 → ⊥
 
