@@ -15,13 +15,19 @@ import sys
 ROOT = pathlib.Path(__file__).resolve().parent.parent
 DECLARATION = re.compile(r"`[^`]+`: ")
 NO_NAME = re.compile(r"is not in scope|that can be named from here|cannot name")
+#: What the prover says of a fact that is not there; it may break the line.
+NO_FIELD = re.compile(r"`[^`]+`: record `[^`]+`\s+has no field")
 
 
 def first_error(log):
-    """The first error, without its place; None where a function that has no proof file was not proved, which is told otherwise."""
-    errors = (line for line in log.read_text(errors="replace").splitlines() if ": error: " in line)
-    line = next(errors, None)
-    return line and line.split(": error: ", 1)[1]
+    """The log from its first error on, without its place; empty where a function that has no proof file was not proved, which is told
+    otherwise."""
+    return log.read_text(errors="replace").partition(": error: ")[2]
+
+
+def is_of_form(error):
+    line = error.partition("\n")[0]
+    return not DECLARATION.match(line) or bool(NO_NAME.search(line)) or bool(NO_FIELD.match(error))
 
 
 def main():
@@ -29,9 +35,9 @@ def main():
     has_faults = False
     for log in sorted(folder.glob("*/*/.log")):
         error = first_error(log)
-        if error and (not DECLARATION.match(error) or NO_NAME.search(error)):
+        if error and is_of_form(error):
             has_faults = True
-            print(f"{log.parent.relative_to(folder)}: refused for its form: {error[:200]}")
+            print(f"{log.parent.relative_to(folder)}: refused for its form: {' '.join(error.split())[:200]}")
     sys.exit(1 if has_faults else 0)
 
 
