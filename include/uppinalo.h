@@ -5,9 +5,11 @@
  * A lent run or text may be empty, with a null pointer. Lent buffers do not overlap.
  *
  * number  1 text over 128 bytes    2 unknown calendar    3 ill-formed text, or no such period or mode
- *         4 no such date           5 out of range        6 no such whole offset or number, or what is read is not whole
+ *         4 a field no date has    5 out of range        6 no such whole offset or number, or what is read is not whole
  *         7 too little room        8 double not finite   9 no whole number of records
- *        10 not-a-time           11 fragments have ended, or the state is damaged
+ *        10 not-a-time            11 fragments have ended, or the state is damaged
+ *        12 no such year or day in this calendar        13 one of the ten days that standard dropped in October 1582
+ * Of a date with several faults 4 (month 13, day 32, hour 24, zone hour 24) comes before 12 (year 0, 30 February) and 13.
  */
 #ifndef UPPINALO_H
 #define UPPINALO_H

@@ -2,7 +2,7 @@
 
 use answers::*;
 use bench::plain;
-use samples::{Random, damage, datetime64, fragments, identifiers, instants};
+use samples::{Random, borders, damage, datetime64, fragments, identifiers, instants};
 use second::boundary;
 use std::fmt::Debug;
 
@@ -65,6 +65,20 @@ fn dates() {
     }
 }
 
+/// Mistyped, missing and dropped dates, and several faults at once, as dates, as fields and in units texts.
+#[test]
+fn dates_at_borders() {
+    let mut random = Random::seeded(18);
+    for (calendar, date) in borders::dates(1) {
+        assert_eq!(plain::days::day_of_date(calendar, date), boundary::day_number_of_date(calendar, date), "{date:?}");
+        let axis = Axis { calendar, ..Default::default() };
+        let fields = borders::fields(&mut random, date);
+        assert_eq!(plain::writing::write_fields(axis, fields), boundary::write_fields(axis, fields), "{fields:?}");
+        let (name, text) = borders::text(&mut random, calendar, date);
+        read_units(name, &format!("s since {text}"));
+    }
+}
+
 #[test]
 fn offsets() {
     let mut random = Random::seeded(13);
@@ -91,6 +105,11 @@ fn writing() {
     }
 }
 
+fn read_units(name: &str, text: &str) {
+    let answer = unsafe { plain::units::read_units(name.as_ptr(), name.len(), text.as_ptr(), text.len()) };
+    assert_eq!(answer, boundary::read_units(name.as_bytes(), text.as_bytes()), "{name} {text}");
+}
+
 #[test]
 fn units() {
     let mut random = Random::seeded(15);
@@ -111,11 +130,9 @@ fn units() {
     let times = ["", " 0", "T23:59", " 24", " 1:2:3.045", "T0:0:60", " 7:8:9.", "T12:60"];
     let zones = ["", "Z", " utc", " +01:30", "-0130", "+24", "-00:60", " +1", "+01:", "  Z", "-23:59"];
     for _ in 0..COUNT {
-        let name =
-            random.pick(&["", "standard", "julian", "360_day", "noleap", "366_day", "ISO8601", "tai"]).as_bytes();
+        let name = random.pick(&["", "standard", "julian", "360_day", "noleap", "366_day", "ISO8601", "tai"]);
         let text = [&starts[..], &dates, &times, &zones].map(|list| random.pick(list)).concat();
-        let answer = unsafe { plain::units::read_units(name.as_ptr(), name.len(), text.as_ptr(), text.len()) };
-        assert_eq!(answer, boundary::read_units(name, text.as_bytes()), "{text}");
+        read_units(name, &text);
     }
 }
 

@@ -82,7 +82,14 @@ static uint32_t field(uint32_t least, uint32_t most) {
 
 static uppinalo_fields fields(void) {
     int64_t year = below(20) == 0 ? number() : (int64_t)below(20020) - 10010;
-    return (uppinalo_fields){year, field(1, 12), field(1, 31), field(0, 23), field(0, 59), field(0, 59), field(0, 999999)};
+    uppinalo_fields of = {year, field(1, 12), field(1, 31), field(0, 23), field(0, 59), field(0, 59), field(0, 999999)};
+    if (below(8) == 0)
+        of.year = (int64_t)below(3) - 1;
+    if (below(8) == 0) {
+        of.year = 1582;
+        of.month = 10;
+    }
+    return of;
 }
 
 enum { MOST_BYTES = 300 };
@@ -91,7 +98,7 @@ static const char *const NAMES[] = {"", "standard", "gregorian", "proleptic_greg
     "no_leap", "365_day", "all_leap", "366_day", "uniform30day", "360_day", "tai", "utc", "none"};
 static const char *const UNITS[] = {"days since 1850-01-01", "hours since 1900-1-1 00:00:0.0", "s since 1970",
     "calendar months since 1582-09-10", "Calendar  years SINCE -4712-01-01 12:00 UTC",
-    "msecs since 2000-02-29T23:59:59.999999Z",
+    "msecs since 2000-02-29T23:59:59.999999Z", "days since 1582-10-05 23:59", "hr since 2000-02-30 12:30 +01:30",
     "weeks since 0-1-1", "min since +9999-12-31 23:59 -01", "mon since 1930-01-31 00:30 +01:00", "yrs since 1-1-1 1:1:1.5 gmt"};
 static const char *const PARTS[] = {"days", "since", "calendar", " ", "  ", "-", "+", "1970", "01", "1", "T", ":",
     ".5", "Z", "UTC", "+0130", "-01:30", "s", "\xff", "0000000"};

@@ -5,6 +5,7 @@
  * makes COUNT rounds from SEED. The calls that are named must be there; others that the archive lacks are left out. A round draws
  * the input of one call, most often makes it twice, and tests that
  *   - the answers are the same, the number is one of the table, and a refusal has zeros beside its number;
+ *   - 4 and 13 are the answers to the fields that have them, and to no others;
  *   - what is lent to be read stays, what is lent to be written is written only where the answer says, and nothing beside it;
  *   - other calls agree: an offset or a record read is written back, an element of a run reads as it does alone, a text is read
  *     back, or in fragments as at once.
@@ -29,7 +30,7 @@
 #pragma weak uppinalo_read_datetime64
 #pragma weak uppinalo_write_datetime64
 
-enum { MOST_NUMBER = 11, CALLS = 17 };
+enum { MOST_NUMBER = 13, CALLS = 17 };
 
 static unsigned long long turn;
 static const char *call = "";
@@ -159,7 +160,7 @@ static void end_units(void) {
     uppinalo_axis_answer answer = uppinalo_end_units(given, first, n), other = uppinalo_end_units(&again, first, n);
     count(answer.number);
     require(is_same_axis(&answer, &other) && SAME(again, *given), "two answers");
-    require(answer.number <= 5 || answer.number == 11, "an end is refused with another number");
+    require(answer.number <= 5 || (answer.number >= 11 && answer.number <= 13), "an end is refused with another number");
     require(is_kept_after(&names, 0), "the name is changed");
     require_open(&before, answer.number);
     require_axis(&answer);
@@ -204,6 +205,11 @@ static void write_iso(void) {
     }
 }
 
+/* Whether some date has these fields, the year apart. */
+static int is_possible(uppinalo_fields of) {
+    return of.month - 1 < 12 && of.day - 1 < 31 && of.hour < 24 && of.minute < 60 && of.second < 60 && of.microsecond < 1000000;
+}
+
 static void fields_of(void) {
     uint32_t calendar = code(6);
     int64_t of = instant();
@@ -213,8 +219,7 @@ static void fields_of(void) {
     require(answer.number == again.number && SAME(answer.fields, again.fields), "two answers");
     require(calendar < 6 || answer.number == 2, "an unknown calendar is not refused with 2");
     if (answer.number == 0)
-        require(f.year >= -9999 && f.year <= 9999 && f.month - 1 < 12 && f.day - 1 < 31 && f.hour < 24 && f.minute < 60 &&
-                f.second < 60 && f.microsecond < 1000000, "fields that no instant has");
+        require(f.year >= -9999 && f.year <= 9999 && is_possible(f), "fields that no instant has");
     else
         require(SAME(f, ((uppinalo_fields){0})), "a refusal with fields");
 }
@@ -231,6 +236,15 @@ static void date_of_day(void) {
     }
 }
 
+/* That 4 and 13 are the answers to the fields that have them, and to no others, unless a code, the reference or the year is refused. */
+static void require_kind(uint32_t given, uint32_t calendar, uppinalo_fields of) {
+    int is_dropped = calendar == UPPINALO_STANDARD && of.year == 1582 && of.month == 10 && of.day - 5 < 10;
+    if (given == 2 || given == 3 || given == 5)
+        return;
+    require((given == 4) == !is_possible(of), "4 where every field is possible, or not where one is not");
+    require((given == 13) == (is_possible(of) && is_dropped), "13 for a day that is not dropped, or not for one that is");
+}
+
 static void day_of_date(void) {
     uint32_t calendar = code(6);
     uppinalo_fields drawn = fields();
@@ -238,6 +252,7 @@ static void day_of_date(void) {
     uppinalo_day_answer answer = uppinalo_day_of_date(calendar, date);
     count(answer.number);
     require(answer.number == 0 || answer.day == 0, "a refusal with a day");
+    require_kind(answer.number, calendar, (uppinalo_fields){date.year, date.month, date.day, 0, 0, 0, 0});
     if (uppinalo_date_of_day && answer.number == 0) {
         uppinalo_date_answer back = uppinalo_date_of_day(calendar, answer.day);
         require(back.number == 0 && SAME(back.date, date), "the day number has another date");
@@ -296,6 +311,7 @@ static void write_fields(void) {
     uppinalo_offset_answer answer = uppinalo_write_fields(on, of);
     count(answer.number);
     require(answer.number == 0 || answer.offset == 0, "a refusal with an offset");
+    require_kind(answer.number, on.calendar, of);
     if (uppinalo_read_whole && uppinalo_fields_of && answer.number == 0) {
         uppinalo_reading back = uppinalo_read_whole(on, answer.offset);
         uppinalo_fields_answer shown = uppinalo_fields_of(on.calendar, back.instant);

@@ -30,10 +30,10 @@ pub fn date_of(fields: Fields) -> Date {
     Date { year: fields.year, month: fields.month, day: fields.day }
 }
 
-/// Whether fields whose year is in range exist.
-pub fn exist(calendar: u32, fields: Fields) -> bool {
+/// The number of the refusal of fields whose year is in range, or 0.
+pub fn refusal(calendar: u32, fields: Fields) -> u32 {
     let clock = fields.hour < 24 && fields.minute < 60 && fields.second < 60 && fields.microsecond < 1_000_000;
-    clock && days::exists(calendar, date_of(fields))
+    if clock { days::refusal(calendar, date_of(fields)) } else { 4 }
 }
 
 /// The instant of fields that exist.

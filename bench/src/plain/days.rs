@@ -88,13 +88,21 @@ pub fn month_length(calendar: u32, year: i64, month: u32) -> u32 {
     }
 }
 
-pub fn exists(calendar: u32, date: Date) -> bool {
+/// Whether a calendar dropped a date in 1582.
+pub fn is_dropped(calendar: u32, date: Date) -> bool {
+    calendar == 0 && date.year == 1582 && date.month == 10 && (5..15).contains(&date.day)
+}
+
+/// The number of the refusal of a date whose year is in range, or 0.
+pub fn refusal(calendar: u32, date: Date) -> u32 {
     let Date { year, month, day } = date;
-    let is_dropped = calendar == 0 && year == 1582 && month == 10 && 4 < day && day < 15;
-    if is_dropped || year == 0 && lacks_year_0(calendar) {
-        return false;
+    if !(1..=12).contains(&month) || !(1..=31).contains(&day) {
+        return 4;
     }
-    (1..=12).contains(&month) && 1 <= day && day <= month_length(calendar, year, month)
+    if year == 0 && lacks_year_0(calendar) || day > month_length(calendar, year, month) {
+        return 12;
+    }
+    if is_dropped(calendar, date) { 13 } else { 0 }
 }
 
 #[inline(never)]
@@ -116,8 +124,8 @@ pub extern "C" fn day_of_date(calendar: u32, date: Date) -> DayAnswer {
     if !(-9999..=9999).contains(&date.year) {
         return DayAnswer { number: 5, day: 0 };
     }
-    if !exists(calendar, date) {
-        return DayAnswer { number: 4, day: 0 };
+    match refusal(calendar, date) {
+        0 => DayAnswer { number: 0, day: day(calendar, date) },
+        number => DayAnswer { number, day: 0 },
     }
-    DayAnswer { number: 0, day: day(calendar, date) }
 }

@@ -62,7 +62,7 @@ fn time(text: &mut Scanner, fields: &mut Fields) -> Option<()> {
     Some(())
 }
 
-/// The zone's microseconds ahead of UTC, or that it does not exist.
+/// The zone's microseconds ahead of UTC, or that no zone has its hours or minutes.
 fn zone(text: &mut Scanner) -> Option<Option<i64>> {
     if text.rest.is_empty() {
         return Some(Some(0));
@@ -127,10 +127,12 @@ pub fn read(name: &[u8], text: &[u8]) -> Result<Axis, u32> {
     }
     let calendar = calendar(name).ok_or(2u32)?;
     let (mode, period, written) = units(text).ok_or(3u32)?;
-    if !clock::exist(calendar, written.fields) {
-        return Err(4);
+    let zone = written.zone.ok_or(4u32)?;
+    let number = clock::refusal(calendar, written.fields);
+    if number != 0 {
+        return Err(number);
     }
-    let reference = clock::instant(calendar, written.fields) - written.zone.ok_or(4u32)?;
+    let reference = clock::instant(calendar, written.fields) - zone;
     if !clock::is_in_range(calendar, reference) {
         return Err(5);
     }

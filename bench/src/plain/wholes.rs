@@ -20,7 +20,7 @@ pub fn month_count(calendar: u32, fields: Fields) -> i64 {
 /// The last day of a month that is not after a day.
 fn day_at_most(calendar: u32, year: i64, month: u32, day: u32) -> u32 {
     let day = day.min(days::month_length(calendar, year, month));
-    if days::exists(calendar, Date { year, month, day }) { day } else { 4 }
+    if days::is_dropped(calendar, Date { year, month, day }) { 4 } else { day }
 }
 
 /// The instant of some fields in another month, where its year is in range.

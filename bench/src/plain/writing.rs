@@ -42,8 +42,10 @@ pub extern "C" fn write_instant(axis: Axis, instant: i64) -> OffsetAnswer {
 pub extern "C" fn write_fields(axis: Axis, fields: Fields) -> OffsetAnswer {
     match period::refusal(axis) {
         0 if !(-9999..=9999).contains(&fields.year) => OffsetAnswer { number: 5, offset: 0 },
-        0 if !clock::exist(axis.calendar, fields) => OffsetAnswer { number: 4, offset: 0 },
-        0 => write(axis, clock::instant(axis.calendar, fields)),
+        0 => match clock::refusal(axis.calendar, fields) {
+            0 => write(axis, clock::instant(axis.calendar, fields)),
+            number => OffsetAnswer { number, offset: 0 },
+        },
         number => OffsetAnswer { number, offset: 0 },
     }
 }

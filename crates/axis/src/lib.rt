@@ -157,7 +157,7 @@ pub fn write_instant(axis: Axis, t: i64) -> OffsetAnswer
     }
 }
 
-// The same of fields; OutOfRange for the reference, then for the year, then NoSuchDate, then Inexact.
+// The same of fields; OutOfRange for the reference, then as their instant is, then Inexact.
 pub fn write_fields(axis: Axis, f: Fields) -> OffsetAnswer
     ensures { λ r. ⌜ r ≡ writeFieldsOn axis f ⌝ }
 {

@@ -1,5 +1,5 @@
 -- The answers, from tests on a day number with its bias of 2^63.
-use mathlib.Core.Path.{_≡_, sym, ap, _∙_}
+use mathlib.Core.Path.{_≡_, refl, sym, ap, _∙_}
 use mathlib.Core.Bool.{Bool, true, false, _&&_, cond}
 use Prim.Native.Nat.{ℕ, _+_, _-_, _<_, _≤_}
 use native.Mathlib.Omega.{arith}
@@ -7,18 +7,19 @@ use lib.Dec.{leb, ltb}
 use lib.IntN.{ℤ, subℕ}
 use lib.Signed.{leZ}
 use borrow.Author.Tests.{le-leb, lt-leb, leb-true, leb-false, ltb-true, ltb-false}
-use Rattle.refusal.specs.declared.Refusal.the-variants.{NoSuchDate, OutOfRange}
+use Rattle.refusal.specs.declared.Refusal.the-variants.{ImpossibleField, OutOfRange, MissingDate, DroppedDate}
 use Rattle.signed.specs.Bias.{unbiased}
 use Rattle.signed.proofs.Tests.{test-is, both, and-parts, left-out, right-out}
 use Rattle.signed.proofs.Differences.{sub-le, same-diff}
-use Rattle.calendar.specs.Calendar.{dateOf, inYears, exists}
-use Rattle.calendar.specs.Answers.{dateAnswer, dayAnswer}
+use Rattle.calendar.specs.Calendar.{dateOf, inYears, exists, dropped}
+use Rattle.calendar.specs.Answers.{dateAnswer, isPossible, faultWith, refusalWith, dayNumber, dayWith, dayAnswer}
 use Rattle.calendar.specs.Closed.{epochDay, firstDay, endDay}
 use Rattle.calendar.specs.declared.Calendar.{Calendar}
 use Rattle.calendar.specs.declared.Date.{Date}
 use Rattle.calendar.specs.declared.DateAnswer.{DateAnswer}
 use Rattle.calendar.specs.declared.DayAnswer.{DayAnswer}
 use Rattle.calendar.proofs.Range.{range, small, wide, lowDay, highDay}
+use Rattle.calendar.proofs.Existing.{exists-possible}
 use Rattle.calendar.proofs.Numbering.{number-is}
 
 module _ (c : Calendar) where
@@ -71,20 +72,65 @@ module _ (c : Calendar) where
     pub place-is : o ≤ k → subℕ (k - o) (epochDay c) ≡ unbiased k
     place-is l = same-diff (k - o) (epochDay c) k 9223372036854775808 (omega (arith, small c))
 
--- ---- the day number of a date
+-- ---- why a date is refused, with what stands beside it
 
-module _ (c : Calendar) (x : Date) where
-  pub year-out : inYears (x .year) ≡ false → DayAnswer.Refused OutOfRange ≡ dayAnswer c x
-  unfolding dayAnswer
-  year-out h = rw h
+module _ (rest : Bool) (c : Calendar) (x : Date) where
+  pub refused-past : inYears (x .year) ≡ false → OutOfRange ≡ refusalWith rest c x
+  unfolding refusalWith
+  refused-past h = rw h
 
-  pub date-missing : inYears (x .year) ≡ true → exists c x ≡ false → DayAnswer.Refused NoSuchDate ≡ dayAnswer c x
-  unfolding dayAnswer
-  date-missing h g = rw (h, g)
+  module _ (h : inYears (x .year) ≡ true) where
+    pub refused-impossible : (rest && isPossible (x .month) (x .day)) ≡ false → ImpossibleField ≡ refusalWith rest c x
+    unfolding refusalWith faultWith
+    refused-impossible p = rw (h, p)
 
-  pub date-there : (z : ℤ) → inYears (x .year) ≡ true → exists c x ≡ true → dateOf c z ≡ x → DayAnswer.Is z ≡ dayAnswer c x
-  unfolding dayAnswer
-  date-there z h g e = rw (h, g) (ap DayAnswer.Is (sym (number-is c x z h e)))
+    module _ (p : (rest && isPossible (x .month) (x .day)) ≡ true) where
+      pub refused-dropped : dropped c x ≡ true → DroppedDate ≡ refusalWith rest c x
+      unfolding refusalWith faultWith
+      refused-dropped d = rw (h, p, d)
+
+      pub refused-missing : dropped c x ≡ false → MissingDate ≡ refusalWith rest c x
+      unfolding refusalWith faultWith
+      refused-missing d = rw (h, p, d)
+
+-- ---- its day number
+
+module _ (rest : Bool) (c : Calendar) (x : Date) where
+  pub day-refused : (rest && (inYears (x .year) && exists c x)) ≡ false → DayAnswer.Refused (refusalWith rest c x) ≡ dayWith rest c x
+  unfolding dayWith
+  day-refused h = rw h
+
+  pub year-out : inYears (x .year) ≡ false → DayAnswer.Refused OutOfRange ≡ dayWith rest c x
+  year-out h = ap DayAnswer.Refused (refused-past rest c x h) ∙ day-refused (right-out rest (inYears (x .year) && exists c x) (left-out (inYears (x .year)) (exists c x) h))
+
+  pub day-given : (z : ℤ) → rest ≡ true → inYears (x .year) ≡ true → exists c x ≡ true → dateOf c z ≡ x → DayAnswer.Is z ≡ dayWith rest c x
+  unfolding dayWith
+  day-given z p h g e = rw (p, h, g) (ap DayAnswer.Is (sym (number-is c x z h e)))
+
+  -- one of the five
+  pub data DayOutcome : DayAnswer → Type 0 where
+    past : inYears (x .year) ≡ false → DayOutcome (DayAnswer.Refused OutOfRange)
+    impossible : inYears (x .year) ≡ true → (rest && isPossible (x .month) (x .day)) ≡ false → DayOutcome (DayAnswer.Refused ImpossibleField)
+    missing : inYears (x .year) ≡ true → (rest && isPossible (x .month) (x .day)) ≡ true → exists c x ≡ false → dropped c x ≡ false → DayOutcome (DayAnswer.Refused MissingDate)
+    was-dropped : inYears (x .year) ≡ true → (rest && isPossible (x .month) (x .day)) ≡ true → exists c x ≡ false → dropped c x ≡ true → DayOutcome (DayAnswer.Refused DroppedDate)
+    there : inYears (x .year) ≡ true → (rest && isPossible (x .month) (x .day)) ≡ true → exists c x ≡ true → DayOutcome (DayAnswer.Is (dayNumber c x))
+
+  pub day-outcome : DayOutcome (dayWith rest c x)
+  unfolding dayWith refusalWith faultWith
+  day-outcome = go rest (inYears (x .year)) (exists c x) (isPossible (x .month) (x .day)) (dropped c x) refl refl refl refl refl
+    where
+      go : (r h e p d : Bool) → rest ≡ r → inYears (x .year) ≡ h → exists c x ≡ e → isPossible (x .month) (x .day) ≡ p → dropped c x ≡ d
+          → DayOutcome (cond (r && (h && e)) (DayAnswer.Is (dayNumber c x)) (DayAnswer.Refused (cond h (cond (r && p) (cond d DroppedDate MissingDate) ImpossibleField) OutOfRange)))
+      go true false e p d a b f g k = past b
+      go false false e p d a b f g k = past b
+      go false true e p d a b f g k = impossible b (left-out rest (isPossible (x .month) (x .day)) a)
+      go true true true p d a b f g k = there b (both rest (isPossible (x .month) (x .day)) a (exists-possible c x f)) f
+      go true true false false d a b f g k = impossible b (right-out rest (isPossible (x .month) (x .day)) g)
+      go true true false true true a b f g k = was-dropped b (both rest (isPossible (x .month) (x .day)) a g) f k
+      go true true false true false a b f g k = missing b (both rest (isPossible (x .month) (x .day)) a g) f k
+
+pub date-there : (c : Calendar) (x : Date) (z : ℤ) → inYears (x .year) ≡ true → exists c x ≡ true → dateOf c z ≡ x → DayAnswer.Is z ≡ dayAnswer c x
+date-there c x z = day-given true c x z refl
 
 -- the years -9999 to 9999, of a year with its bias of 2^63
 pub year-biased : (k : ℕ) → inYears (unbiased k) ≡ (leb 9223372036854765809 k && leb k 9223372036854785807)

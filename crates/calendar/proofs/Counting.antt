@@ -9,8 +9,8 @@ use lib.IntN.{subℕ}
 use borrow.Author.Tests.{le-leb, leb-true, leb-false, lt-ltb, le-ltb, eqb-true, eq-eqb, ne-eqb, not-true, not-false}
 use Rattle.signed.proofs.Tests.{and-parts, to-false, test-is}
 use Rattle.calendar.specs.Plain.{Plain, monthDays, date, hasDay}
-use Rattle.calendar.specs.Calendar.{CalendarRow, earlyPart, latePart, existsBy, dateBy, exists, dateOf, hasYearZero, rowOf}
-use Rattle.calendar.specs.Closed.{kindAt, count, yearAt, label, dayPlace, beforePlace, countedRow, counts, mixed, cutoverDay, lateFrom, lag, isEarly, isDropped, ruleAt, lagAt, rowEpoch, epochDay}
+use Rattle.calendar.specs.Calendar.{CalendarRow, earlyPart, latePart, existsBy, droppedBy, dateBy, exists, dropped, dateOf, hasYearZero, rowOf}
+use Rattle.calendar.specs.Closed.{kindAt, count, yearAt, label, dayPlace, beforePlace, countedRow, counts, mixed, cutoverDay, lateFrom, lag, isEarly, inGap, ruleAt, lagAt, rowEpoch, epochDay}
 use Rattle.calendar.specs.Order.{sameYear, earlier}
 use Rattle.calendar.specs.declared.Calendar.{Calendar}
 use Rattle.calendar.specs.declared.Date.{Date}
@@ -49,9 +49,9 @@ module _ (r : Rule) (y m d : ℕ) where
   pub not-at : (Parts r y m d → ⊥) → hasDayAt r y m d ≡ false
   not-at f = to-false (hasDayAt r y m d) (λ h. f (parts-of h))
 
-  pub day-test : 1 ≤ m → m ≤ 12 → 1 ≤ d → hasDayAt r y m d ≡ leb d (monthDays (kindAt r y) (m - 1))
+  pub by-length : 1 ≤ m → m ≤ 12 → 1 ≤ d → hasDayAt r y m d ≡ leb d (monthDays (kindAt r y) (m - 1))
   unfolding hasDayAt
-  day-test a b e = rw (le-leb 1 m a, le-leb m 12 b, le-leb 1 d e)
+  by-length a b e = rw (le-leb 1 m a, le-leb m 12 b, le-leb 1 d e)
 
   module _ (h : hasDayAt r y m d ≡ true) where
     proper-at : Proper r (dayPlace y m d)
@@ -141,7 +141,7 @@ module _ (r : CalendarRow) (h : Cutover r) (y m d : ℕ) where
       not-after (r .last .year) (r .last .month) (r .last .day) x ∙ (ap (earlier x) e ∙ before-place (r .zero) y m d (k .until))
 
   -- with one rule on both sides of one place, a date need not be early
-  pub exists-is : existsBy r x ≡ (not (isDropped k y m d) && hasDayAt (ruleAt k y m d) y m d)
+  pub exists-is : existsBy r x ≡ (not (inGap k y m d) && hasDayAt (ruleAt k y m d) y m d)
   unfolding existsBy
   exists-is =
       (λ i. cond (before-first i) (exists-at (earlyPart r) y m d i && not-after-last i) (exists-at (latePart r) y m d i))
@@ -162,11 +162,37 @@ module _ (r : CalendarRow) (h : Cutover r) (y m d : ℕ) where
       go false true false t p q f g = absurd (true≢false (sym q ∙ (ap (beforePlace y m d) (sym (meeting r p)) ∙ f)))
       go false false b t p q f g = refl
 
+  -- what is dropped, the early rule has
+  dropped-is : droppedBy r x ≡ (inGap k y m d && hasDayAt (ruleAt k y m d) y m d)
+  unfolding droppedBy
+  dropped-is =
+      (λ i. before-first i && (exists-at (earlyPart r) y m d i && after-last i))
+      ∙ go (mixed k) (beforePlace y m d (k .from)) (beforePlace y m d (k .until)) (hasDayAt (r .early) y m d) refl refl refl refl
+    where
+      turned : (a b : Bool) → not a ≡ b → a ≡ not b
+      turned true b e = ap not e
+      turned false b e = ap not e
+
+      after-last : earlier (r .last) x ≡ not (beforePlace y m d (k .until))
+      after-last = turned (earlier (r .last) x) (beforePlace y m d (k .until)) not-after-last
+
+      go : (s a b t : Bool) → mixed k ≡ s → beforePlace y m d (k .from) ≡ a → beforePlace y m d (k .until) ≡ b → hasDayAt (r .early) y m d ≡ t
+          → (a && (t && not b)) ≡ (((s && a) && not b) && hasDayAt (cond (s && a) (r .early) (r .late)) y m d)
+      go true true true true p q f g = refl
+      go true true true false p q f g = refl
+      go true true false true p q f g = sym g
+      go true true false false p q f g = sym g
+      go true false b t p q f g = refl
+      go false true true true p q f g = refl
+      go false true true false p q f g = refl
+      go false true false t p q f g = absurd (true≢false (sym q ∙ (ap (beforePlace y m d) (sym (meeting r p)) ∙ f)))
+      go false false b t p q f g = refl
+
   -- the day of a date that exists
   pub day-is : existsBy r x ≡ true → dateBy r (subℕ (count (ruleAt k y m d) (dayPlace y m d)) (rowEpoch k + lagAt k y m d)) ≡ x
   unfolding rowEpoch
   day-is e =
-      let w = and-parts (not (isDropped k y m d)) (hasDayAt (ruleAt k y m d) y m d) (sym exists-is ∙ e) in
+      let w = and-parts (not (inGap k y m d)) (hasDayAt (ruleAt k y m d) y m d) (sym exists-is ∙ e) in
       go (mixed k) (beforePlace y m d (k .from)) refl refl (w .0) (w .1)
     where
       late : hasDayAt (r .late) y m d ≡ true → lateFrom k ≤ count (r .late) (dayPlace y m d) → dateBy r (subℕ (count (r .late) (dayPlace y m d)) (rowEpoch k + 0)) ≡ x
@@ -195,9 +221,13 @@ module _ (r : CalendarRow) (h : Cutover r) (y m d : ℕ) where
 -- ---- the calendars
 
 module _ (c : Calendar) (y m d : ℕ) where
-  pub exists-by : exists c (date (yearAt (hasYearZero c) y) m d) ≡ (not (isDropped (counts c) y m d) && hasDayAt (ruleAt (counts c) y m d) y m d)
+  pub exists-by : exists c (date (yearAt (hasYearZero c) y) m d) ≡ (not (inGap (counts c) y m d) && hasDayAt (ruleAt (counts c) y m d) y m d)
   unfolding exists
   exists-by = exists-is (rowOf c) (cutover c) y m d
+
+  pub dropped-by : dropped c (date (yearAt (hasYearZero c) y) m d) ≡ (inGap (counts c) y m d && hasDayAt (ruleAt (counts c) y m d) y m d)
+  unfolding dropped
+  dropped-by = dropped-is (rowOf c) (cutover c) y m d
 
   pub numbered : exists c (date (yearAt (hasYearZero c) y) m d) ≡ true → dateOf c (subℕ (count (ruleAt (counts c) y m d) (dayPlace y m d)) (epochDay c + lagAt (counts c) y m d)) ≡ date (yearAt (hasYearZero c) y) m d
   unfolding exists dateOf
@@ -205,7 +235,7 @@ module _ (c : Calendar) (y m d : ℕ) where
 
   -- the rule of a date that exists has it
   pub has-by : exists c (date (yearAt (hasYearZero c) y) m d) ≡ true → hasDayAt (ruleAt (counts c) y m d) y m d ≡ true
-  has-by h = and-parts (not (isDropped (counts c) y m d)) (hasDayAt (ruleAt (counts c) y m d) y m d) (sym exists-by ∙ h) .1
+  has-by h = and-parts (not (inGap (counts c) y m d)) (hasDayAt (ruleAt (counts c) y m d) y m d) (sym exists-by ∙ h) .1
 
   pub lag-at-small : lagAt (counts c) y m d ≤ 300
   lag-at-small = go (isEarly (counts c) y m d)

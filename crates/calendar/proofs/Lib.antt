@@ -14,5 +14,7 @@ pub mod Existing
 pub mod Numbering
 pub mod Answering
 pub mod Counting
+pub mod Counted
 pub mod Months
+pub mod Possible
 pub mod Theorems

@@ -8,13 +8,12 @@ use lib.IntN.{ℤ, pos, negsuc, sucℤ, subℕ, _+ℤ_, +ℤ-sucℤ, +ℤ-idr, -
 use lib.Dec.{leb, ltb}
 use lib.Signed.{leZ, ltZ}
 use borrow.Author.Tests.{leb-true, ltb-true, ltb-false, eqb-false}
-use Rattle.refusal.specs.declared.Refusal.the-variants.{NoSuchDate, OutOfRange}
 use Rattle.signed.proofs.Tests.{and-parts}
 use Rattle.signed.proofs.Differences.{sub-low, sub-high}
 use Rattle.calendar.specs.Plain.{lacksYear}
 use Rattle.calendar.specs.Calendar.{hasYearZero, yearAfter, next, prev, dateOf, DaysOn, exists, inYears, date, rowOf, nextBy, prevBy, existsBy, dateBy, epoch, times}
 use Rattle.calendar.specs.Order.{earlier}
-use Rattle.calendar.specs.Answers.{dayNumber, dayAnswer}
+use Rattle.calendar.specs.Answers.{isPossible, dayNumber, dayWith}
 use Rattle.calendar.specs.Closed.{yearAt, count, placeOf, label, dayPlace, counts, lateFrom, lag, ruleAt, lagAt, dayByRule, epochDay, ruleOfDay}
 use Rattle.calendar.specs.declared.Calendar.{Calendar}
 use Rattle.calendar.specs.declared.Calendar.the-variants.{Standard, Julian}
@@ -35,6 +34,7 @@ use Rattle.calendar.proofs.Range.{lowDay, highDay}
 use Rattle.calendar.proofs.Counting.{numbered}
 use Rattle.calendar.proofs.Numbering as Numbering
 use Rattle.calendar.proofs.Numbering.{number-is}
+use Rattle.calendar.proofs.Answering.{DayOutcome, past, impossible, missing, was-dropped, there, day-outcome}
 
 -- the count of a year from -10000
 pub record Count (z : Bool) (y : ℤ) : Type 0 where
@@ -146,20 +146,22 @@ module _ (c : Calendar) where
   pub number-of-date : (z : ℤ) → inYears (dateOf c z .year) ≡ true → dayNumber c (dateOf c z) ≡ z
   number-of-date z h = number-is c (dateOf c z) z h refl
 
--- what a day number that was answered says
-pub record Numbered (c : Calendar) (x : Date) (z : ℤ) : Type 0 where
+-- what a day number that was answered says, of a date and of what stands beside it
+pub record Numbered (rest : Bool) (c : Calendar) (x : Date) (z : ℤ) : Type 0 where
   pub inside : inYears (x .year) ≡ true
+  pub beside : rest ≡ true
   pub there : exists c x ≡ true
   pub is : dateOf c z ≡ x
 
-pub answered : (c : Calendar) (x : Date) (z : ℤ) → DayAnswer.Is z ≡ dayAnswer c x → Numbered c x z
-unfolding dayAnswer
-answered c x z = go (inYears (x .year)) (exists c x) refl refl
+pub answered : (rest : Bool) (c : Calendar) (x : Date) (z : ℤ) → DayAnswer.Is z ≡ dayWith rest c x → Numbered rest c x z
+answered rest c x z = go (day-outcome rest c x)
   where
-    go : (a b : Bool) → inYears (x .year) ≡ a → exists c x ≡ b → DayAnswer.Is z ≡ cond a (cond b (DayAnswer.Is (dayNumber c x)) (DayAnswer.Refused NoSuchDate)) (DayAnswer.Refused OutOfRange) → Numbered c x z
-    go true true e f h = let n : z ≡ dayNumber c x = (cc) in record { inside = e; there = f; is = ap (dateOf c) n ∙ date-of-number c x e f }
-    go true false e f h = absurd (let y : _≡_ {A = ℕ} 0 1 = (cc) in omega arith)
-    go false b e f h = absurd (let y : _≡_ {A = ℕ} 0 1 = (cc) in omega arith)
+    go : {a : DayAnswer} → DayOutcome rest c x a → DayAnswer.Is z ≡ a → Numbered rest c x z
+    go (past h) e = absurd (let y : _≡_ {A = ℕ} 0 1 = (cc) in omega arith)
+    go (impossible h p) e = absurd (let y : _≡_ {A = ℕ} 0 1 = (cc) in omega arith)
+    go (missing h p g d) e = absurd (let y : _≡_ {A = ℕ} 0 1 = (cc) in omega arith)
+    go (was-dropped h p g d) e = absurd (let y : _≡_ {A = ℕ} 0 1 = (cc) in omega arith)
+    go (there h p g) e = let n : z ≡ dayNumber c x = (cc) in record { inside = h; beside = and-parts rest (isPossible (x .month) (x .day)) p .0; there = g; is = ap (dateOf c) n ∙ date-of-number c x h g }
 
 -- ---- `julian` beside `standard`: through the last day that `standard` keeps they have the same dates, each followed by the same
 

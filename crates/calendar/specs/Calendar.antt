@@ -58,6 +58,10 @@ prevBy r x = cond (sameDate x (r .first)) (r .last) (cond (earlier x (r .first))
 unfoldable pub existsBy : CalendarRow → Date → Bool
 existsBy r x = cond (earlier x (r .first)) (hasDay (earlyPart r) x && not (earlier (r .last) x)) (hasDay (latePart r) x)
 
+-- the dates that the early part has there are dropped
+unfoldable pub droppedBy : CalendarRow → Date → Bool
+droppedBy r x = earlier x (r .first) && (hasDay (earlyPart r) x && earlier (r .last) x)
+
 -- ---- the date of a day number: so many steps of the next-day rule from 1970-01-01, or as many back
 
 abbrev pub epoch : Date
@@ -81,6 +85,9 @@ prev c = prevBy (rowOf c)
 
 unfoldable pub exists : Calendar → Date → Bool
 exists c = existsBy (rowOf c)
+
+unfoldable pub dropped : Calendar → Date → Bool
+dropped c = droppedBy (rowOf c)
 
 unfoldable pub dateOf : Calendar → ℤ → Date
 dateOf c = dateBy (rowOf c)

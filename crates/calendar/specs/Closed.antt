@@ -1,13 +1,13 @@
 -- Closed forms, which only inner functions compute; no promise to a caller of the library rests on them. proofs/ joins them to the next-day rule.
 -- All over natural numbers: year y of a place is counted from year -10000, a month and a day from 0.
-use mathlib.Core.Bool.{Bool, false, not, _&&_, _||_, cond}
+use mathlib.Core.Bool.{Bool, true, false, not, _&&_, _||_, cond}
 use Prim.Native.Nat.{ℕ, zero, suc, _+_, _-_, _*_, _/_, _%_, _<_, _^_}
 use lib.Dec.{leb, ltb, eqb}
 use lib.IntN.{ℤ, pos, subℕ}
 use mathlib.Core.Path.{_≡_}
 use Rattle.signed.specs.Bias.{lift}
 use Rattle.calendar.specs.Plain.{monthDays, ofLeap, date}
-use Rattle.calendar.specs.Calendar.{CalendarRow, rowOf, hasYearZero, dateOf}
+use Rattle.calendar.specs.Calendar.{CalendarRow, rowOf, hasYearZero, exists, dateOf, inYears}
 use Rattle.calendar.specs.declared.Calendar.{Calendar}
 use Rattle.calendar.specs.declared.Date.{Date}
 use Rattle.calendar.specs.declared.rule.Rule.{Rule}
@@ -15,6 +15,7 @@ use Rattle.calendar.specs.declared.rule.YearDay.{YearDay}
 use Rattle.calendar.specs.declared.place.Place.{Place}
 use Rattle.calendar.specs.declared.row.CountedRow.{CountedRow}
 use Rattle.calendar.specs.declared.YearCount.{YearCount}
+use Rattle.calendar.specs.declared.FoundDay.{FoundDay}
 
 -- ---- years
 
@@ -113,6 +114,11 @@ abbrev pub Counted : Bool → ℤ → YearCount → Type 0
 Counted z y (YearCount.Is n) = yearAt z n ≡ y
 Counted z y YearCount.Missing = (z ≡ false) × (y ≡ pos 0)
 
+-- the day number of a date of the years -9999 to 9999 that exists, or that there is none
+abbrev pub Found : Calendar → Date → FoundDay → Type 0
+Found c x (FoundDay.Is n) = ((inYears (x .year) && exists c x) ≡ true) × (dateOf c n ≡ x)
+Found c x FoundDay.Nothing = (inYears (x .year) && exists c x) ≡ false
+
 -- the tests of a date of year y by its month and day, and its place
 
 abbrev pub dayPlace : ℕ → ℕ → ℕ → Place
@@ -156,8 +162,9 @@ firstYear z = cond z 1 2
 abbrev pub isEarly : CountedRow → ℕ → ℕ → ℕ → Bool
 isEarly k y m d = mixed k && beforePlace y m d (k .from)
 
-abbrev pub isDropped : CountedRow → ℕ → ℕ → ℕ → Bool
-isDropped k y m d = isEarly k y m d && not (beforePlace y m d (k .until))
+-- as it is written, it lies after the last day of that part and before the first of the late one
+abbrev pub inGap : CountedRow → ℕ → ℕ → ℕ → Bool
+inGap k y m d = isEarly k y m d && not (beforePlace y m d (k .until))
 
 -- the rule of the part that a date belongs to, and the days by which the late rule lags behind it
 abbrev pub ruleAt : CountedRow → ℕ → ℕ → ℕ → Rule

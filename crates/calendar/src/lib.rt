@@ -4,9 +4,9 @@ ghost use mathlib.Core.Path.{_≡_};
 ghost use mathlib.Core.Bool.{true};
 ghost use Prim.Native.Nat.{_-_, _≤_};
 ghost use Rattle.signed.specs.Bias.{unbiased};
-ghost use Rattle.calendar.specs.Answers.{dateAnswer, dayAnswer};
+ghost use Rattle.calendar.specs.Answers.{dateAnswer, refusalWith, dayAnswer};
 ghost use Rattle.calendar.specs.Calendar.{hasYearZero, inYears, dateOf};
-ghost use Rattle.calendar.specs.Closed.{epochDay, firstYear, firstDay, endDay, Counted, PlaceOfDay};
+ghost use Rattle.calendar.specs.Closed.{epochDay, firstYear, firstDay, endDay, Counted, Found, PlaceOfDay};
 use refusal::Refusal;
 
 pub mod civil;
@@ -164,25 +164,73 @@ pub fn year_count(zero: bool, k: u64) -> YearCount
     return YearCount::Is(k - (0x8000_0000_0000_0000 - 10000));
 }
 
-// The day number of a date, counted from 1970-01-01; OutOfRange where its year lies past -9999 to 9999, then NoSuchDate where the
-// calendar does not have it.
+// Whether the year k - 2^63 lies in -9999 to 9999.
+fn in_years(k: u64) -> bool
+    ensures { λ r. ⌜ r ≡ inYears (unbiased k) ⌝ }
+{
+    if k < 0x8000_0000_0000_0000 - 9999 {
+        return false;
+    }
+    return k <= 0x8000_0000_0000_0000 + 9999;
+}
+
+// The day number of a date, or that there is none.
+pub enum FoundDay {
+    Is(i64),
+    Nothing,
+}
+
+// The day number, counted from 1970-01-01, of a date of the years -9999 to 9999 that exists.
+pub fn found_day(c: Calendar, x: Date) -> FoundDay
+    ensures { λ r. ⌜ Found c x r ⌝ }
+{
+    let k = signed::biased(x.year);
+    if !in_years(k) {
+        return FoundDay::Nothing;
+    }
+    match year_count(has_year_zero(c), k) {
+        YearCount::Missing => return FoundDay::Nothing,
+        YearCount::Is(y) => {
+            if ordinal::exists_in_year(c, y, x.month, x.day) {
+                return FoundDay::Is(ordinal::day_in_year(c, y, x.month, x.day));
+            }
+            return FoundDay::Nothing;
+        }
+    }
+}
+
+// Why a date for which no day is found is refused, or for what stands beside it; `rest` says that each field there is possible. OutOfRange
+// for the year, then ImpossibleField for a field that no date has, then MissingDate or DroppedDate, as the calendar says.
+pub fn refusal_with(c: Calendar, x: Date, rest: bool) -> Refusal
+    ensures { λ r. ⌜ r ≡ refusalWith rest c x ⌝ }
+{
+    let k = signed::biased(x.year);
+    if !in_years(k) {
+        return Refusal::OutOfRange;
+    }
+    if !rest {
+        return Refusal::ImpossibleField;
+    }
+    if !ordinal::is_possible(x.month, x.day) {
+        return Refusal::ImpossibleField;
+    }
+    match year_count(has_year_zero(c), k) {
+        YearCount::Missing => return Refusal::MissingDate,
+        YearCount::Is(y) => {
+            if ordinal::is_dropped(c, y, x.month, x.day) {
+                return Refusal::DroppedDate;
+            }
+            return Refusal::MissingDate;
+        }
+    }
+}
+
+// The day number of a date, or its refusal.
 pub fn day_of_date(c: Calendar, x: Date) -> DayAnswer
     ensures { λ r. ⌜ r ≡ dayAnswer c x ⌝ }
 {
-    let k = signed::biased(x.year);
-    if k < 0x8000_0000_0000_0000 - 9999 {
-        return DayAnswer::Refused(Refusal::OutOfRange);
-    }
-    if 0x8000_0000_0000_0000 + 9999 < k {
-        return DayAnswer::Refused(Refusal::OutOfRange);
-    }
-    match year_count(has_year_zero(c), k) {
-        YearCount::Missing => return DayAnswer::Refused(Refusal::NoSuchDate),
-        YearCount::Is(y) => {
-            if ordinal::exists_in_year(c, y, x.month, x.day) {
-                return DayAnswer::Is(ordinal::day_in_year(c, y, x.month, x.day));
-            }
-            return DayAnswer::Refused(Refusal::NoSuchDate);
-        }
+    match found_day(c, x) {
+        FoundDay::Is(n) => return DayAnswer::Is(n),
+        FoundDay::Nothing => return DayAnswer::Refused(refusal_with(c, x, true)),
     }
 }

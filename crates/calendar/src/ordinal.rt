@@ -2,8 +2,9 @@
 ghost use mathlib.Core.Path.{_≡_};
 ghost use mathlib.Core.Bool.{true};
 ghost use Prim.Native.Nat.{_<_, _^_};
-ghost use Rattle.calendar.specs.Calendar.{hasYearZero, exists, date, dateOf};
-ghost use Rattle.calendar.specs.Closed.{yearAt, beforePlace, counts, isEarly, isDropped, ruleAt, lagAt};
+ghost use Rattle.calendar.specs.Calendar.{hasYearZero, exists, dropped, date, dateOf};
+ghost use Rattle.calendar.specs.Answers.{isPossible};
+ghost use Rattle.calendar.specs.Closed.{yearAt, beforePlace, counts, isEarly, inGap, ruleAt, lagAt};
 use crate::Calendar;
 use crate::month;
 use crate::place;
@@ -41,9 +42,9 @@ fn is_early(c: Calendar, y: u64, month: u32, day: u32) -> bool
     return is_before(y, month, day, from);
 }
 
-// Whether a date was dropped at the cutover.
-fn is_dropped(c: Calendar, y: u64, month: u32, day: u32) -> bool
-    ensures { λ r. ⌜ r ≡ isDropped (counts c) y month day ⌝ }
+// Whether a date lies after the last day kept and before the first of the late part, as it is written.
+fn is_in_gap(c: Calendar, y: u64, month: u32, day: u32) -> bool
+    ensures { λ r. ⌜ r ≡ inGap (counts c) y month day ⌝ }
 {
     if !is_early(c, y, month, day) {
         return false;
@@ -87,7 +88,36 @@ pub fn exists_in_year(c: Calendar, y: u64, month: u32, day: u32) -> bool
     if day < 1 {
         return false;
     }
-    if is_dropped(c, y, month, day) {
+    if is_in_gap(c, y, month, day) {
+        return false;
+    }
+    let m = (month - 1) as usize;
+    let k = rule::kind_of_year(rule_at(c, y, month, day), y);
+    return day as u64 <= month::month_length(k, m);
+}
+
+// Whether some date has this month, and some date this day.
+pub fn is_possible(month: u32, day: u32) -> bool
+    ensures { λ r. ⌜ r ≡ isPossible month day ⌝ }
+{
+    if month < 1 {
+        return false;
+    }
+    if 12 < month {
+        return false;
+    }
+    if day < 1 {
+        return false;
+    }
+    return day <= 31;
+}
+
+// Whether a date, whose month and day are possible, is one that the calendar dropped.
+pub fn is_dropped(c: Calendar, y: u64, month: u32, day: u32) -> bool
+    requires { ⌜ isPossible month day ≡ true ⌝ }
+    ensures { λ r. ⌜ r ≡ dropped c (date (yearAt (hasYearZero c) y) month day) ⌝ }
+{
+    if !is_in_gap(c, y, month, day) {
         return false;
     }
     let m = (month - 1) as usize;

@@ -61,7 +61,7 @@ module _ (c : Calendar) (d : Date) (there : exists c d ≡ true) (s : ℕ) where
   day-read h = (instantAt (dayNumber c d) s, ap (λ (a : DayAnswer). onDay a s) (sym (date-there c d (dayNumber c d) h there (date-of-number c d h there))))
 
   day-past : inYears (d .year) ≡ false → onDay (dayAnswer c d) s ≡ Reading.Refused OutOfRange
-  day-past h = ap (λ (a : DayAnswer). onDay a s) (sym (year-out c d h))
+  day-past h = ap (λ (a : DayAnswer). onDay a s) (sym (year-out true c d h))
 
   pub day-inside : isRead (onDay (dayAnswer c d) s) ≡ true → inYears (d .year) ≡ true
   day-inside h = go (inYears (d .year)) refl
@@ -99,7 +99,7 @@ module _ (part : Part) (c : Calendar) (R : ℤ) where
       go : (a : DayAnswer) → a ≡ dayAnswer c (date n) → onDay a (timeOf R) ≡ Reading.At t exact → Moved n t
       go (DayAnswer.Is z) f h =
           let k : instantAt z (timeOf R) ≡ t = (cc) in
-          let w = answered c (date n) z f in
+          let w = answered true c (date n) z f in
           let d : dateAt c t ≡ date n = ap (dateOf c) (ap dayOf (sym k) ∙ day-of-sum z (timeOf R) (time-small R)) ∙ w .is in
           record { inside = ap (λ (x : Date). inYears (x .year)) d ∙ w .inside; date-is = d; time-is = ap timeOf (sym k) ∙ time-of-sum z (timeOf R) (time-small R) }
       go (DayAnswer.Refused r) f h = absurd (let z : _≡_ {A = ℕ} 0 1 = (cc) in omega arith)

@@ -1,6 +1,6 @@
 -- The answers of the calls, known for all inputs, from the dates and day numbers of Days.antt.
 use mathlib.Core.Path.{_≡_}
-use mathlib.Core.Bool.{Bool, true, cond}
+use mathlib.Core.Bool.{Bool, true, _&&_, cond}
 use mathlib.Core.List.{List}
 use mathlib.Core.Option.{Option, none, some}
 use Prim.Native.Nat.{ℕ}
@@ -16,7 +16,7 @@ use Rattle.calendar.specs.declared.DayAnswer.{DayAnswer}
 use Rattle.axis_types.specs.Lengths.{lengthOf}
 use Rattle.axis_types.specs.declared.Mode.{Mode}
 use Rattle.axis_types.specs.declared.Period.{Period}
-use Rattle.instant.specs.Instant.{dayOf, timeOf, inRange, withTime, fieldsAnswer, dateIn, withClock, instantAnswer}
+use Rattle.instant.specs.Instant.{dayOf, timeOf, inRange, withTime, fieldsAnswer, dateIn, isClock, withClock, instantWith}
 use Rattle.instant.specs.declared.Fields.{Fields}
 use Rattle.instant.specs.declared.FieldsAnswer.{FieldsAnswer}
 use Rattle.instant.specs.declared.InstantAnswer.{InstantAnswer}
@@ -47,7 +47,7 @@ use Rattle.named_text.specs.declared.TextCalendar.{TextCalendar}
 use Rattle.named_text.specs.Texts.{textCalendar, inCalendar, readText}
 use Rattle.cases.specs.Cases.{textAnswer, readingAnswer, axisAnswer, Case, answerOf}
 use Rattle.cases.proofs.Known.{Known, itself, applied, through, tested, chosen}
-use Rattle.cases.proofs.Days.{dateOfKnown, inYearsKnown, dateAnswerKnown, dayAnswerKnown}
+use Rattle.cases.proofs.Days.{dateOfKnown, inYearsKnown, dateAnswerKnown, dayWithKnown}
 
 -- `fKnown` is what is known of the definition f. What its value needs to compute stands on its `unfolding` line.
 
@@ -61,9 +61,9 @@ module _ (c : Calendar) where
   unfolding fieldsAnswer dateAnswerKnown dayOf timeOf
   fieldsAnswerKnown t = applied (λ (a : DateAnswer). withTime a (timeOf t)) (dateAnswerKnown c (dayOf t))
 
-  unfoldable pub instantAnswerKnown : (f : Fields) → Known (instantAnswer c f)
-  unfolding instantAnswer dayAnswerKnown
-  instantAnswerKnown f = applied (λ (a : DayAnswer). withClock a f) (dayAnswerKnown c (dateIn f))
+  unfoldable pub instantWithKnown : (rest : Bool) (f : Fields) → Known (instantWith rest c f)
+  unfolding instantWith dayWithKnown
+  instantWithKnown rest f = applied (λ (a : DayAnswer). withClock a f) (dayWithKnown c (dateIn f) (rest && isClock f))
 
 -- ---- the axis of a units text
 module _ (c : Calendar) where
@@ -71,12 +71,12 @@ module _ (c : Calendar) where
   unfolding inRangeKnown
   lessZoneKnown z (InstantAnswer.Is t) =
       let u = t -ℤ ahead z in
-      chosen (itself (isZone z)) (λ h. chosen (inRangeKnown c u) (λ g. itself (InstantAnswer.Is u)) (InstantAnswer.Refused Refusal.OutOfRange)) (InstantAnswer.Refused Refusal.NoSuchDate)
+      chosen (inRangeKnown c u) (λ g. itself (InstantAnswer.Is u)) (InstantAnswer.Refused Refusal.OutOfRange)
   lessZoneKnown z (InstantAnswer.Refused r) = itself (InstantAnswer.Refused r)
 
   unfoldable pub writtenInstantKnown : (w : WrittenDate) → Known (writtenInstant c w)
-  unfolding writtenInstant lessZoneKnown instantAnswerKnown
-  writtenInstantKnown w = through (lessZone c (w .time .zone)) (lessZoneKnown (w .time .zone)) (instantAnswerKnown c (localFields w))
+  unfolding writtenInstant lessZoneKnown instantWithKnown
+  writtenInstantKnown w = through (lessZone c (w .time .zone)) (lessZoneKnown (w .time .zone)) (instantWithKnown c (isZone (w .time .zone)) (localFields w))
 
   unfoldable pub axisOfKnown : (u : Units) → Known (axisOf c u)
   unfolding writtenInstantKnown
@@ -112,10 +112,10 @@ module _ (c : Calendar) (p : Period) (R : ℤ) where
   -- in calendar mode the reference has a date, since it lies in the range
   module _ (h : inRange c R ≡ true) where
     unfoldable pub readByKnown : (s : Step) (n : ℤ) → Known (readBy s c p R n)
-    unfolding readWholeKnown readSteps dateOfKnown dayAnswerKnown dayOf timeOf dateAfter stepAfter stepBefore steps times yearAfter yearBefore downTo
+    unfolding readWholeKnown readSteps dateOfKnown dayWithKnown dayOf timeOf dateAfter stepAfter stepBefore steps times yearAfter yearBefore downTo
     readByKnown Step.Time n = readWholeKnown n
     readByKnown (Step.Date part) n =
-        through (λ (x : Date). readFrom part c x (timeOf R) n) (λ (x : Date). applied (λ (a : DayAnswer). onDay a (timeOf R)) (dayAnswerKnown c (dateAfter part c n x))) (dateOfKnown c (dayOf R) h)
+        through (λ (x : Date). readFrom part c x (timeOf R) n) (λ (x : Date). applied (λ (a : DayAnswer). onDay a (timeOf R)) (dayWithKnown c (dateAfter part c n x) true)) (dateOfKnown c (dayOf R) h)
 
     unfoldable pub asWholeKnown : (s : Step) (w : Whole) → Known (asWhole w (readBy s c p R))
     unfolding readByKnown

@@ -5,13 +5,14 @@ use Prim.Native.Nat.{ℕ, _+_, _-_}
 use native.Mathlib.Omega.{arith}
 use lib.IntN.{ℤ, pos, negsuc, subℕ}
 use lib.Signed.{leZ}
-use Rattle.refusal.specs.declared.Refusal.the-variants.{NoSuchDate, OutOfRange}
+use Rattle.refusal.specs.declared.Refusal.the-variants.{OutOfRange}
 use Rattle.signed.specs.Bias.{lift}
+use Rattle.signed.proofs.Tests.{and-parts}
 use Rattle.signed.proofs.Differences.{lift-sub}
 use Rattle.calendar.specs.Plain.{hasDay, kind, monthDays}
 use Rattle.calendar.specs.Order.{earlier}
-use Rattle.calendar.specs.Calendar.{date, dateOf, exists, existsBy, hasYearZero, inYears}
-use Rattle.calendar.specs.Answers.{dateAnswer, dayAnswer, dayNumber}
+use Rattle.calendar.specs.Calendar.{date, dateOf, exists, existsBy, dropped, droppedBy, hasYearZero, inYears}
+use Rattle.calendar.specs.Answers.{dateAnswer, faultWith, refusalWith, dayWith, dayNumber}
 use Rattle.calendar.specs.Closed.{beforePlace, count, counts, cutoverDay, dayPlace, epochDay, kindAt, label, lag, lagAt, monthStart, rowEnd, rowEpoch, rowStart, ruleAt, yearAt, yearStart}
 use Rattle.calendar.specs.declared.Calendar.{Calendar}
 use Rattle.calendar.specs.declared.Date.{Date}
@@ -76,7 +77,10 @@ module _ (c : Calendar) (x : Date) where
       let n = subℕ (count (ruleAt (counts c) y (x .month) (x .day)) (dayPlace y (x .month) (x .day))) (epochDay c + lagAt (counts c) y (x .month) (x .day)) in
       record { value = n; is = number-is c x n h (numbered c y (x .month) (x .day) (ap (exists c) e ∙ g) ∙ e) }
 
-  -- the day number of a date, or its refusal
-  unfoldable pub dayAnswerKnown : Known (dayAnswer c x)
-  unfolding dayAnswer exists existsBy earlier hasDay kind monthDays dayNumberKnown
-  dayAnswerKnown = chosen (itself (inYears (x .year))) (λ h. chosen (itself (exists c x)) (λ g. applied DayAnswer.Is (dayNumberKnown h g)) (DayAnswer.Refused NoSuchDate)) (DayAnswer.Refused OutOfRange)
+  -- the day number of a date with what stands beside it, or its refusal
+  unfoldable pub dayWithKnown : (rest : Bool) → Known (dayWith rest c x)
+  unfolding dayWith refusalWith faultWith exists existsBy dropped droppedBy earlier hasDay kind monthDays dayNumberKnown
+  dayWithKnown rest =
+      chosen (itself (rest && (inYears (x .year) && exists c x)))
+      (λ h. let w = and-parts (inYears (x .year)) (exists c x) (and-parts rest (inYears (x .year) && exists c x) h .1) in applied DayAnswer.Is (dayNumberKnown (w .0) (w .1)))
+      (DayAnswer.Refused (refusalWith rest c x))

@@ -1,6 +1,7 @@
-// Runs the cases by hand of document 01, and some about the years of `julian` before year 1, over the library's calls. A line for each
-// case: the calendar, the units text, the offset that is read or the date that is written, and the answer. The stored output is written
-// by hand from the documents. The cases of the first two groups are proved over the definitions too (specs/Cases.antt).
+// Runs the cases by hand of document 01, and some about the years of `julian` before year 1 and about dates that are refused, over the
+// library's calls. A line for each case: the calendar, the units text, the offset that is read or the date that is written, and the
+// answer. The stored output is written by hand from the documents. The cases of the first two groups are proved over the definitions too
+// (specs/Cases.antt).
 use axis_text::AxisAnswer;
 use axis_types::Axis;
 use axis_types::Offset;
@@ -193,6 +194,31 @@ fn dates_in_julian() {
     read_whole(b"julian", b"days since 0000-01-01", 0);
 }
 
+// ---- a mistyped date told from a missing one (document 02, CR 5): 4 before 12 and 13, whichever field it is
+
+fn impossible_fields() {
+    read_whole(b"standard", b"days since 1900-13-01", 0);
+    read_whole(b"360_day", b"days since 1900-02-32", 0);
+    read_whole(b"standard", b"days since 0000-00-01", 0);
+    read_whole(b"standard", b"days since 1900-02-30T24:00", 0);
+    read_whole(b"standard", b"days since 1582-10-10 00:00 +24:00", 0);
+}
+
+fn missing_dates() {
+    read_whole(b"standard", b"days since 0000-12-31", 0);
+    read_whole(b"standard", b"days since 1900-02-29", 0);
+    read_whole(b"360_day", b"days since 1900-01-31", 0);
+    read_whole(b"all_leap", b"days since 1900-04-31", 0);
+}
+
+fn dropped_dates() {
+    write_date(b"standard", b"days since 1582-10-15", b"1582-10-04");
+    write_date(b"standard", b"days since 1582-10-15", b"1582-10-05");
+    write_date(b"standard", b"days since 1582-10-15", b"1582-10-14");
+    write_date(b"standard", b"days since 1582-10-15", b"1582-10-15");
+    write_date(b"julian", b"days since 1582-10-15", b"1582-10-14");
+}
+
 // ---- all of them
 
 fn main() {
@@ -204,4 +230,7 @@ fn main() {
     leap_years_of_julian();
     steps_in_julian();
     dates_in_julian();
+    impossible_fields();
+    missing_dates();
+    dropped_dates();
 }

@@ -1,6 +1,6 @@
 -- The time of day of fields, and the instant of a day and a time.
 use mathlib.Core.Path.{_≡_, sym, ap, _∙_, subst}
-use mathlib.Core.Bool.{true, _&&_}
+use mathlib.Core.Bool.{Bool, true, _&&_}
 use Prim.Native.Nat.{ℕ, suc, _+_, _-_, _*_, _≤_, _<_}
 use native.Mathlib.Omega.{arith}
 use lib.Dec.{ltb}
@@ -12,7 +12,7 @@ use Rattle.signed.proofs.Tests.{and-parts}
 use Rattle.signed.proofs.Differences.{by-sign, sub-low, sub-high, same-diff, times-plus}
 use Rattle.calendar.specs.Closed.{epochDay, firstDay, endDay}
 use Rattle.calendar.specs.Calendar.{dateOf, inYears}
-use Rattle.calendar.specs.Answers.{dayAnswer}
+use Rattle.calendar.specs.Answers.{dayWith}
 use Rattle.calendar.specs.declared.Calendar.{Calendar}
 use Rattle.calendar.specs.declared.Date.{Date}
 use Rattle.calendar.specs.declared.DayAnswer.{DayAnswer}
@@ -46,8 +46,8 @@ day-small c (negsuc n) h =
     let w = and-parts (leZ (lowDay c) (negsuc n)) (leZ (negsuc n) (highDay c)) (sym (range c (negsuc n)) ∙ h) .0 in
     omega (arith, small c, leb-true n (epochDay c - suc (firstDay c)) (ap (λ (z : ℤ). leZ z (negsuc n)) (sym (sub-low (firstDay c) (epochDay c) (omega (arith, small c)))) ∙ w))
 
-pub answered-small : (c : Calendar) (x : Date) (z : ℤ) → DayAnswer.Is z ≡ dayAnswer c x → mag z < 5000000
-answered-small c x z h = let n = answered c x z h in day-small c z (ap (λ (d : Date). inYears (d .year)) (n .is) ∙ n .inside)
+pub answered-small : (rest : Bool) (c : Calendar) (x : Date) (z : ℤ) → DayAnswer.Is z ≡ dayWith rest c x → mag z < 5000000
+answered-small rest c x z h = let n = answered rest c x z h in day-small c z (ap (λ (d : Date). inYears (d .year)) (n .is) ∙ n .inside)
 
 -- ---- the day's beginning and a time of day: k is the day, biased by 2^63
 module _ (z : ℤ) (k s : ℕ) (small : mag z < 5000000) (e : unbiased k ≡ z) where

@@ -7,21 +7,22 @@ use lib.Dec.{ltb, eqb}
 use lib.IntN.{ℤ, pos, negsuc, subℕ, _+ℤ_, _*ℤ_}
 use lib.Signed.{ltZ}
 use borrow.Author.Tests.{lt-ltb, eq-eqb, ne-eqb}
-use Rattle.refusal.specs.declared.Refusal.the-variants.{NoSuchDate, OutOfRange}
-use Rattle.signed.proofs.Tests.{test-is}
+use Rattle.refusal.specs.declared.Refusal.{Refusal}
+use Rattle.refusal.specs.declared.Refusal.the-variants.{OutOfRange}
+use Rattle.signed.proofs.Tests.{test-is, and-parts}
 use Rattle.signed.proofs.Differences.{Common, common, by-sign, sub-low, sub-high, sub-lt, sub-inj, neg-plus, times-plus}
 use Rattle.signed.proofs.Lexicographic.{lexicographic}
 use Rattle.calendar.specs.Calendar.{dateOf, exists, inYears}
 use Rattle.calendar.specs.Order.{earlier, sameDate}
-use Rattle.calendar.specs.Answers.{dayNumber, dayAnswer}
+use Rattle.calendar.specs.Answers.{dayNumber, dayWith}
 use Rattle.calendar.specs.declared.Calendar.{Calendar}
 use Rattle.calendar.specs.declared.Date.{Date}
 use Rattle.calendar.specs.declared.DateAnswer.{DateAnswer}
 use Rattle.calendar.specs.declared.DayAnswer.{DayAnswer}
 use Rattle.calendar.proofs.Numbering.{same-of, same-self}
 use Rattle.calendar.proofs.Answering.{in-range, out-of-range, date-there}
-use Rattle.calendar.proofs.Theorems.{order, one-day, dates-exist, answered}
-use Rattle.instant.specs.Instant.{dayOf, timeOf, inRange, fieldsAt, withTime, fieldsAnswer, dateIn, isClock, clockTime, withClock, instantAnswer}
+use Rattle.calendar.proofs.Theorems.{order, one-day, dates-exist, date-of-number, Numbered, answered}
+use Rattle.instant.specs.Instant.{dayOf, timeOf, instantAt, inRange, fieldsAt, withTime, fieldsAnswer, dateIn, isClock, clockTime, withClock, instantWith, instantAnswer}
 use Rattle.instant.specs.Order.{earlierClock, earlierFields}
 use Rattle.instant.specs.declared.Fields.{Fields}
 use Rattle.instant.specs.declared.FieldsAnswer.{FieldsAnswer}
@@ -110,37 +111,36 @@ module _ (c : Calendar) (t : ℤ) where
           absurd (let y : _≡_ {A = ℕ} 0 1 = (cc) in omega arith)
 
 -- the day number and the time of fields whose instant is given
-module _ (c : Calendar) (f : Fields) (t : ℤ) where
+module _ (rest : Bool) (c : Calendar) (f : Fields) (t : ℤ) where
   pub record Placed : Type 0 where
     pub day : ℤ
-    pub answer : DayAnswer.Is day ≡ dayAnswer c (dateIn f)
+    pub beside : rest ≡ true
     pub clock : isClock f ≡ true
+    pub dated : Numbered (rest && isClock f) c (dateIn f) day
     pub is : day *ℤ pos 86400000000 +ℤ pos (clockTime f) ≡ t
 
-  pub placed : instantAnswer c f ≡ InstantAnswer.Is t → Placed
-  unfolding instantAnswer
-  placed = go (dayAnswer c (dateIn f)) (isClock f) refl refl
+  pub placed : instantWith rest c f ≡ InstantAnswer.Is t → Placed
+  unfolding instantWith
+  placed = go (dayWith (rest && isClock f) c (dateIn f)) refl
     where
-      go : (a : DayAnswer) (b : Bool) → a ≡ dayAnswer c (dateIn f) → isClock f ≡ b → withClock a f ≡ InstantAnswer.Is t → Placed
-      go (DayAnswer.Is n) true e g h = record { day = n; answer = e; clock = g; is = (cc (ap (λ (b : Bool). cond b (InstantAnswer.Is (n *ℤ pos 86400000000 +ℤ pos (clockTime f))) (InstantAnswer.Refused NoSuchDate)) (sym g) ∙ h)) }
-      go (DayAnswer.Is n) false e g h =
-          let k : InstantAnswer.Refused NoSuchDate ≡ InstantAnswer.Is t = ap (λ (b : Bool). cond b (InstantAnswer.Is (n *ℤ pos 86400000000 +ℤ pos (clockTime f))) (InstantAnswer.Refused NoSuchDate)) (sym g) ∙ h in
-          absurd (let y : _≡_ {A = ℕ} 0 1 = (cc) in omega arith)
-      go (DayAnswer.Refused r) b e g h = absurd (let y : _≡_ {A = ℕ} 0 1 = (cc) in omega arith)
+      go : (a : DayAnswer) → a ≡ dayWith (rest && isClock f) c (dateIn f) → withClock a f ≡ InstantAnswer.Is t → Placed
+      go (DayAnswer.Is n) e h =
+          let d = answered (rest && isClock f) c (dateIn f) n e in
+          let w = and-parts rest (isClock f) (d .beside) in
+          record { day = n; beside = w .0; clock = w .1; dated = d; is = (cc h) }
+      go (DayAnswer.Refused r) e h = absurd (let y : _≡_ {A = ℕ} 0 1 = (cc) in omega arith)
 
--- fields are refused for the year first, then where there are none such
-module _ (c : Calendar) (f : Fields) where
-  pub fields-past : inYears (f .year) ≡ false → instantAnswer c f ≡ InstantAnswer.Refused OutOfRange
-  unfolding instantAnswer dayAnswer
-  fields-past h = rw h
+-- fields are refused as their date is, which has the time of day beside it
+pub refused-as-date : (rest : Bool) (c : Calendar) (f : Fields) (r : Refusal) → DayAnswer.Refused r ≡ dayWith (rest && isClock f) c (dateIn f) → InstantAnswer.Refused r ≡ instantWith rest c f
+unfolding instantWith
+refused-as-date rest c f r e = ap (λ (a : DayAnswer). withClock a f) e
 
-  pub fields-missing : inYears (f .year) ≡ true → (exists c (dateIn f) && isClock f) ≡ false → instantAnswer c f ≡ InstantAnswer.Refused NoSuchDate
-  unfolding instantAnswer dayAnswer
-  fields-missing h k = rw h (go (exists c (dateIn f)) k)
-    where
-      go : (b : Bool) → (b && isClock f) ≡ false → withClock (cond b (DayAnswer.Is (dayNumber c (dateIn f))) (DayAnswer.Refused NoSuchDate)) f ≡ InstantAnswer.Refused NoSuchDate
-      go true e = rw e
-      go false e = refl
+-- and those that a calendar has are an instant's
+pub fields-had : (c : Calendar) (f : Fields) → inYears (f .year) ≡ true → exists c (dateIn f) ≡ true → isClock f ≡ true → InstantAnswer.Is (instantAt (dayNumber c (dateIn f)) (clockTime f)) ≡ instantAnswer c f
+unfolding instantWith
+fields-had c f h g k =
+    let d = dateIn f in
+    ap (λ (a : DayAnswer). withClock a f) (date-there c d (dayNumber c d) h g (date-of-number c d h g) ∙ ap (λ (b : Bool). dayWith b c d) (sym k))
 
 -- ---- there and back
 
@@ -148,9 +148,9 @@ module _ (c : Calendar) where
   -- the fields of the instant of fields
   pub fields-of-instant : (f : Fields) (t : ℤ) → instantAnswer c f ≡ InstantAnswer.Is t → fieldsAnswer c t ≡ FieldsAnswer.Is f
   fields-of-instant f t h =
-      let p = placed c f t h in
+      let p = placed true c f t h in
       let s = clock-small f (p .clock) in
-      let n = answered c (dateIn f) (p .day) (p .answer) in
+      let n = p .dated in
       let d : dayOf t ≡ p .day = ap dayOf (sym (p .is)) ∙ day-of-sum (p .day) (clockTime f) s in
       let u : timeOf t ≡ clockTime f = ap timeOf (sym (p .is)) ∙ time-of-sum (p .day) (clockTime f) s in
       let w : dateOf c (dayOf t) ≡ dateIn f = ap (dateOf c) d ∙ n .is in
@@ -158,19 +158,17 @@ module _ (c : Calendar) where
 
   -- the instant of the fields of an instant
   pub instant-of-fields : (t : ℤ) (f : Fields) → fieldsAnswer c t ≡ FieldsAnswer.Is f → instantAnswer c f ≡ InstantAnswer.Is t
-  unfolding instantAnswer
+  unfolding instantWith
   instant-of-fields t f h =
       let v = shown c t f h in
       let d = dateOf c (dayOf t) in
       let s = timeOf t in
       let g = fieldsAt d s in
-      let a : DayAnswer.Is (dayOf t) ≡ dayAnswer c d = date-there c d (dayOf t) (v .inside) (dates-exist c (dayOf t)) refl in
       let k : isClock g ≡ true = clock-of-time d s (time-small t) in
+      let a : DayAnswer.Is (dayOf t) ≡ dayWith (isClock g) c d = date-there c d (dayOf t) (v .inside) (dates-exist c (dayOf t)) refl ∙ ap (λ (b : Bool). dayWith b c d) (sym k) in
       let i : dayOf t *ℤ pos 86400000000 +ℤ pos (clockTime g) ≡ t = ap (λ (n : ℕ). dayOf t *ℤ pos 86400000000 +ℤ pos n) (time-of-fields d s) ∙ day-and-time t in
-      ap (λ (x : Fields). withClock (dayAnswer c (dateIn x)) x) (sym (v .is))
-      ∙ (ap (λ (x : DayAnswer). withClock x g) (sym a)
-      ∙ (ap (λ (b : Bool). cond b (InstantAnswer.Is (dayOf t *ℤ pos 86400000000 +ℤ pos (clockTime g))) (InstantAnswer.Refused NoSuchDate)) k
-      ∙ ap InstantAnswer.Is i))
+      ap (λ (x : Fields). withClock (dayWith (isClock x) c (dateIn x)) x) (sym (v .is))
+      ∙ (ap (λ (x : DayAnswer). withClock x g) (sym a) ∙ ap InstantAnswer.Is i)
 
 -- ---- order
 

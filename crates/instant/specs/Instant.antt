@@ -1,11 +1,10 @@
 -- Instants and their fields: document 01, "Instants and axes". An instant is a count of microseconds since the start of 1970.
-use mathlib.Core.Bool.{Bool, _&&_, cond}
+use mathlib.Core.Bool.{Bool, true, _&&_}
 use Prim.Native.Nat.{ℕ, _+_, _-_, _*_, _/_, _%_}
 use lib.Dec.{ltb}
 use lib.IntN.{ℤ, pos, negsuc, _+ℤ_, _*ℤ_}
-use Rattle.refusal.specs.declared.Refusal.the-variants.{NoSuchDate}
 use Rattle.calendar.specs.Calendar.{date, dateOf, inYears}
-use Rattle.calendar.specs.Answers.{dateAnswer, dayAnswer}
+use Rattle.calendar.specs.Answers.{dateAnswer, dayWith}
 use Rattle.calendar.specs.declared.Calendar.{Calendar}
 use Rattle.calendar.specs.declared.Date.{Date}
 use Rattle.calendar.specs.declared.DateAnswer.{DateAnswer}
@@ -65,7 +64,7 @@ fieldsAnswer c t = withTime (dateAnswer c (dayOf t)) (timeOf t)
 abbrev pub dateIn : Fields → Date
 dateIn f = date (f .year) (f .month) (f .day)
 
--- the fields name a time of day
+-- the fields name a time of day: each is one that some instant has
 abbrev pub isClock : Fields → Bool
 isClock f = (ltb (f .hour) 24 && ltb (f .minute) 60) && (ltb (f .second) 60 && ltb (f .microsecond) 1000000)
 
@@ -73,9 +72,14 @@ abbrev pub clockTime : Fields → ℕ
 clockTime f = ((f .hour * 60 + f .minute) * 60 + f .second) * 1000000 + f .microsecond
 
 abbrev pub withClock : DayAnswer → Fields → InstantAnswer
-withClock (DayAnswer.Is n) f = cond (isClock f) (InstantAnswer.Is (instantAt n (clockTime f))) (InstantAnswer.Refused NoSuchDate)
+withClock (DayAnswer.Is n) f = InstantAnswer.Is (instantAt n (clockTime f))
 withClock (DayAnswer.Refused r) f = InstantAnswer.Refused r
 
--- refused as the day number of its date is, and then where the time of day does not exist
-unfoldable pub instantAnswer : Calendar → Fields → InstantAnswer
-instantAnswer c f = withClock (dayAnswer c (dateIn f)) f
+-- the instant of fields with what stands beside them, a zone; `rest` says that it is possible. Refused as their date is, which has the time of
+-- day and the rest beside it
+unfoldable pub instantWith : Bool → Calendar → Fields → InstantAnswer
+instantWith rest c f = withClock (dayWith (rest && isClock f) c (dateIn f)) f
+
+-- the instant of fields alone
+abbrev pub instantAnswer : Calendar → Fields → InstantAnswer
+instantAnswer c f = instantWith true c f

@@ -7,11 +7,11 @@ ghost use lib.Signed.{mag};
 ghost use Rattle.signed.specs.Bias.{unbiased};
 ghost use Rattle.calendar.specs.Closed.{epochDay, endDay};
 ghost use Rattle.instant.specs.Instant.{dayLength, dayOf, timeOf, instantAt, inRange, clockTime, isClock, fieldsAt, fieldsAnswer, instantAnswer};
-ghost use Rattle.instant.specs.Closed.{firstInstant, lastInstant};
+ghost use Rattle.instant.specs.Closed.{firstInstant, lastInstant, fieldsRefusal, FoundAt};
 use calendar::Calendar;
 use calendar::Date;
 use calendar::DateAnswer;
-use calendar::DayAnswer;
+use calendar::FoundDay;
 use refusal::Refusal;
 
 #[repr(C)]
@@ -160,22 +160,55 @@ pub fn clock_time(f: Fields) -> u64
         + (f.microsecond as u64)
 }
 
-// The instant of fields; OutOfRange where the year lies past -9999 to 9999, then NoSuchDate where there is no such date or time.
-pub fn instant_of(c: Calendar, f: Fields) -> InstantAnswer
-    ensures { λ r. ⌜ r ≡ instantAnswer c f ⌝ }
+// The instant of fields, or that there is none.
+pub enum FoundInstant {
+    Is(i64),
+    Nothing,
+}
+
+// The instant of fields that have others beside them; `rest` says that each of these is possible.
+pub fn found_instant(c: Calendar, f: Fields, rest: bool) -> FoundInstant
+    ensures { λ r. ⌜ FoundAt rest c f r ⌝ }
+{
+    if !rest {
+        return FoundInstant::Nothing;
+    }
+    if !is_clock(f) {
+        return FoundInstant::Nothing;
+    }
+    let d = Date {
+        year: f.year,
+        month: f.month,
+        day: f.day,
+    };
+    match calendar::found_day(c, d) {
+        FoundDay::Is(n) => return FoundInstant::Is(instant_at(n, clock_time(f))),
+        FoundDay::Nothing => return FoundInstant::Nothing,
+    }
+}
+
+// Why fields for which no instant is found are refused, or for what stands beside them: as their date is, which has the time of day and the
+// rest beside it.
+pub fn fields_refusal(c: Calendar, f: Fields, rest: bool) -> Refusal
+    ensures { λ r. ⌜ r ≡ fieldsRefusal rest c f ⌝ }
 {
     let d = Date {
         year: f.year,
         month: f.month,
         day: f.day,
     };
-    match calendar::day_of_date(c, d) {
-        DayAnswer::Refused(r) => return InstantAnswer::Refused(r),
-        DayAnswer::Is(n) => {
-            if is_clock(f) {
-                return InstantAnswer::Is(instant_at(n, clock_time(f)));
-            }
-            return InstantAnswer::Refused(Refusal::NoSuchDate);
-        }
+    if !rest {
+        return calendar::refusal_with(c, d, false);
+    }
+    return calendar::refusal_with(c, d, is_clock(f));
+}
+
+// The instant of fields alone, or their refusal.
+pub fn instant_of(c: Calendar, f: Fields) -> InstantAnswer
+    ensures { λ r. ⌜ r ≡ instantAnswer c f ⌝ }
+{
+    match found_instant(c, f, true) {
+        FoundInstant::Is(t) => return InstantAnswer::Is(t),
+        FoundInstant::Nothing => return InstantAnswer::Refused(fields_refusal(c, f, true)),
     }
 }

@@ -6,11 +6,11 @@ use native.Mathlib.Omega.{arith}
 use lib.ListN.{getD}
 use Rattle.refusal.specs.Number.{numberOf}
 use Rattle.refusal.specs.declared.Refusal.{Refusal}
-use Rattle.refusal.specs.declared.Refusal.the-variants.{TextTooLong, UnknownCalendar, IllFormed, NoSuchDate, OutOfRange, Inexact, NoRoom, NotFinite, PartRecord, NotATime, NotOpen}
+use Rattle.refusal.specs.declared.Refusal.the-variants.{TextTooLong, UnknownCalendar, IllFormed, ImpossibleField, OutOfRange, Inexact, NoRoom, NotFinite, PartRecord, NotATime, NotOpen, MissingDate, DroppedDate}
 
 -- the refusals in the order of their numbers, from 1
 refusals : List Refusal
-refusals = TextTooLong ∷ UnknownCalendar ∷ IllFormed ∷ NoSuchDate ∷ OutOfRange ∷ Inexact ∷ NoRoom ∷ NotFinite ∷ PartRecord ∷ NotATime ∷ NotOpen ∷ []
+refusals = TextTooLong ∷ UnknownCalendar ∷ IllFormed ∷ ImpossibleField ∷ OutOfRange ∷ Inexact ∷ NoRoom ∷ NotFinite ∷ PartRecord ∷ NotATime ∷ NotOpen ∷ MissingDate ∷ DroppedDate ∷ []
 
 numbered : ℕ → Refusal
 numbered n = getD refusals (n - 1) NotFinite
@@ -20,7 +20,7 @@ unfolding numbered refusals
 back TextTooLong = refl
 back UnknownCalendar = refl
 back IllFormed = refl
-back NoSuchDate = refl
+back ImpossibleField = refl
 back OutOfRange = refl
 back Inexact = refl
 back NoRoom = refl
@@ -28,6 +28,8 @@ back NotFinite = refl
 back PartRecord = refl
 back NotATime = refl
 back NotOpen = refl
+back MissingDate = refl
+back DroppedDate = refl
 
 pub one-number : (r q : Refusal) → numberOf r ≡ numberOf q → r ≡ q
 one-number r q e = sym (back r) ∙ (ap numbered e ∙ back q)

@@ -7,7 +7,7 @@ pub enum Refusal {
     TextTooLong,
     UnknownCalendar,
     IllFormed,
-    NoSuchDate,
+    ImpossibleField,
     OutOfRange,
     Inexact,
     NoRoom,
@@ -15,6 +15,8 @@ pub enum Refusal {
     PartRecord,
     NotATime,
     NotOpen,
+    MissingDate,
+    DroppedDate,
 }
 
 // The number of a refusal; 0 is kept for success.
@@ -25,7 +27,7 @@ pub fn number(r: Refusal) -> u32
         Refusal::TextTooLong => return 1,
         Refusal::UnknownCalendar => return 2,
         Refusal::IllFormed => return 3,
-        Refusal::NoSuchDate => return 4,
+        Refusal::ImpossibleField => return 4,
         Refusal::OutOfRange => return 5,
         Refusal::Inexact => return 6,
         Refusal::NoRoom => return 7,
@@ -33,5 +35,7 @@ pub fn number(r: Refusal) -> u32
         Refusal::PartRecord => return 9,
         Refusal::NotATime => return 10,
         Refusal::NotOpen => return 11,
+        Refusal::MissingDate => return 12,
+        Refusal::DroppedDate => return 13,
     }
 }

@@ -1,7 +1,7 @@
 -- What `read_units` promises, in terms of the units rule alone: the rule derives the text with the units that are read, and derives no
 -- text that is refused.
 use Prim.Native.Nat.{ℕ}
-use mathlib.Core.Path.{_≡_, refl, sym, ap}
+use mathlib.Core.Path.{_≡_, refl, sym, ap, _∙_, subst}
 use mathlib.Core.Bool.{true, false}
 use mathlib.Core.List.{List}
 use mathlib.Core.Logic.{_↔_}
@@ -13,7 +13,8 @@ use Rattle.grammar.specs.Rules.{bytes}
 use Rattle.grammar.proofs.Reading.{reads, derives, refused, underived, single}
 use Rattle.axis_types.specs.declared.Period.{Period}
 use Rattle.axis_types.specs.declared.Mode.{Mode}
-use Rattle.date_text.specs.DateRule.{midnight}
+use Rattle.date_text.specs.DateRule.{midnight, dateRule}
+use Rattle.date_text.specs.declared.WrittenDate.{WrittenDate}
 use Rattle.units_text.specs.declared.Units.{Units}
 use Rattle.units_text.specs.declared.UnitsAnswer.{UnitsAnswer}
 use Rattle.units_text.specs.UnitsRule.{units}
@@ -32,6 +33,12 @@ units-refused s = (refused units s units-clear, underived units s)
 
 pub units-single : (s : List ℕ) (u v : Units) → Derives units s u → Derives units s v → u ≡ v
 units-single s u v = single units s u v units-clear
+
+-- the end of a units text is a date, and that is its reference
+pub date-at-end : (s : List ℕ) (u : Units) → Derives units s u → (q : List ℕ) × Derives dateRule q (u .reference)
+unfolding Derives
+date-at-end s u (a, (p, q, e, m, (p1, q1, e1, k, (b, (p2, q2, e2, s2, (b2, (p3, q3, e3, s3, (b3, (p4, q4, e4, s4, d), y3)), y2)), y))), x) =
+    (q4, subst (λ (w : WrittenDate). Derives dateRule q4 w) (sym (ap (λ (v : Units). v .reference) x ∙ (y ∙ (y2 ∙ y3)))) d)
 
 -- what an answer says of the text
 abbrev pub unitsValue : UnitsAnswer → Option Units

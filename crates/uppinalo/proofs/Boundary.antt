@@ -9,6 +9,8 @@ use Rattle.calendar.specs.Answers.{dateAnswer, dayAnswer}
 use Rattle.calendar.specs.declared.Calendar.{Calendar}
 use Rattle.calendar.specs.declared.Date.{Date}
 use Rattle.instant.specs.Instant.{fieldsAnswer}
+use Rattle.instant.specs.declared.Fields.{Fields}
+use Rattle.instant.specs.declared.FieldsAnswer.{FieldsAnswer}
 use Rattle.axis_types.specs.Reading.{isRead}
 use Rattle.axis_types.specs.declared.Axis.{Axis}
 use Rattle.axis_types.specs.declared.Reading.{Reading}
@@ -19,7 +21,8 @@ use Rattle.codes.specs.declared.CodedAxis.{CodedAxis}
 use Rattle.codes.proofs.Back.{calendar-back, axis-back}
 use Rattle.uppinalo.specs.Days.{ofDate, ofDay, ofFields, dateByCode, dayByCode, fieldsByCode, uppinaloDateOfDay, uppinaloDayOfDate, uppinaloFieldsOf}
 use Rattle.uppinalo.specs.Offsets.{ofReading, readOn, ofOffset, writeOn}
-use Rattle.uppinalo.specs.Demands.{readAt}
+use Rattle.uppinalo.specs.Demands.{readAt, fieldsGiven}
+use Rattle.uppinalo.specs.declared.days.UppinaloFieldsAnswer.{UppinaloFieldsAnswer}
 use Rattle.uppinalo.specs.declared.texts.UppinaloReading.{UppinaloReading}
 
 -- ---- by codes
@@ -57,3 +60,7 @@ reading-refused (Reading.Refused r) q h = ap Reading.Refused (one-number r q h)
 pub reading-read : (r : Reading) → ofReading r .number ≡ 0 → isRead r ≡ true
 reading-read (Reading.At t exact) h = refl
 reading-read (Reading.Refused r) h = absurd (not-success r h)
+
+pub fields-shown : (a : FieldsAnswer) (f : Fields) → ofFields a ≡ fieldsGiven f → a ≡ FieldsAnswer.Is f
+fields-shown (FieldsAnswer.Is g) f h = ap (λ (a : UppinaloFieldsAnswer). FieldsAnswer.Is (a .fields)) h
+fields-shown (FieldsAnswer.Refused r) f h = absurd (not-success r (ap (λ (a : UppinaloFieldsAnswer). a .number) h))

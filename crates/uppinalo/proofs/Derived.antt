@@ -27,10 +27,10 @@ use Rattle.uppinalo.specs.Demands.{TextsByGrammar, TextsBeforeGrammar}
 
 module _ (name text : List ℕ) (c : Calendar) (l : length text ≤ 128) (n : calendarOf name ≡ some c) where
   units-later : (u : Units) → ofAxis (axisOf c u) .number ≡ 3 → ⊥
-  units-later u = written-outcome c (u .reference) (λ (a : InstantAnswer). ofAxis (axisAt c u a) .number ≡ 3 → ⊥) (λ t _ h. omega arith) (λ h. omega arith) (λ h. omega arith)
+  units-later u = written-outcome c (u .reference) (λ (a : InstantAnswer). ofAxis (axisAt c u a) .number ≡ 3 → ⊥) (λ t _ h. omega arith) (λ h. omega arith) (λ h. omega arith) (λ h. omega arith) (λ h. omega arith)
 
   date-later : (w : WrittenDate) → ofInstant (writtenInstant c w) .number ≡ 3 → ⊥
-  date-later w = written-outcome c w (λ (a : InstantAnswer). ofInstant a .number ≡ 3 → ⊥) (λ t _ h. omega arith) (λ h. omega arith) (λ h. omega arith)
+  date-later w = written-outcome c w (λ (a : InstantAnswer). ofInstant a .number ≡ 3 → ⊥) (λ t _ h. omega arith) (λ h. omega arith) (λ h. omega arith) (λ h. omega arith) (λ h. omega arith)
 
   units-is : (u : Units) → Derives units text u → readUnits name text ≡ axisOf c u
   unfolding readUnits

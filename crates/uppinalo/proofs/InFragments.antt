@@ -37,7 +37,7 @@ unfolding NotEleven readUnits
 read-not-eleven name text = text-outcome AxisAnswer.Refused units axisOf name text (λ (a : AxisAnswer). NotEleven (ofAxis a)) (λ r l h. omega (arith, l, h)) (λ c u _. given c u)
   where
     given : (c : Calendar) (u : Units) → NotEleven (ofAxis (axisOf c u))
-    given c u = written-outcome c (u .reference) (λ (a : InstantAnswer). NotEleven (ofAxis (axisAt c u a))) (λ t _ h. omega (arith, h)) (λ h. omega (arith, h)) (λ h. omega (arith, h))
+    given c u = written-outcome c (u .reference) (λ (a : InstantAnswer). NotEleven (ofAxis (axisAt c u a))) (λ t _ h. omega (arith, h)) (λ h. omega (arith, h)) (λ h. omega (arith, h)) (λ h. omega (arith, h)) (λ h. omega (arith, h))
 
 -- ---- states
 

@@ -6,6 +6,7 @@ pub mod Zeros
 pub mod NextDay
 pub mod Writings
 pub mod Derived
+pub mod WhyRefused
 pub mod InFragments
 pub mod Doubles
 pub mod Alone

@@ -8,7 +8,7 @@ use Rattle.calendar.specs.Answers.{dateAnswer}
 use Rattle.calendar.specs.declared.Calendar.{Calendar}
 use Rattle.calendar.specs.declared.Date.{Date}
 use Rattle.calendar.specs.declared.DateAnswer.{DateAnswer}
-use Rattle.calendar.proofs.Answering.{year-out, date-missing, date-there}
+use Rattle.calendar.proofs.Answering.{year-out, date-there}
 use Rattle.calendar.proofs.Theorems.{dates-exist, days-there, days-only}
 use Rattle.instant.specs.Instant.{dayOf, timeOf, inRange, fieldsAt, withTime, fieldsAnswer}
 use Rattle.instant.proofs.Theorems.{fields-in}
@@ -67,8 +67,7 @@ module _ (c : Calendar) where
         date-of-day = λ n d p. date-is c n ∙ (answered n ∙ ap inYearsOnly (sym (is-date n d p)));
         fields-of = λ t d p. fields-is c t ∙ fields-answered t d p;
         day-of-date = λ n d p h. day-is c d ∙ ap ofDay (sym (date-there c d n h (p .there) (sym (is-date n d p))));
-        year-past = λ x h. day-is c x ∙ ap ofDay (sym (year-out c x h));
-        no-date = λ x h g. day-is c x ∙ ap ofDay (sym (date-missing c x h g));
+        year-past = λ x h. day-is c x ∙ ap ofDay (sym (year-out true c x h));
       }
 
 -- ---- demand 2: days from a reference

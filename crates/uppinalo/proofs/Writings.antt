@@ -8,13 +8,14 @@ use mir.Syntax.{w64}
 use mir.Val.{SFits}
 use Rattle.refusal.specs.Number.{numberOf}
 use Rattle.refusal.specs.declared.Refusal.{Refusal}
-use Rattle.refusal.specs.declared.Refusal.the-variants.{NoSuchDate, OutOfRange, Inexact}
-use Rattle.calendar.specs.Answers.{dayNumber, dayAnswer}
-use Rattle.instant.specs.Instant.{instantAt, inRange, fieldsAnswer, dateIn, clockTime, instantAnswer}
+use Rattle.refusal.specs.declared.Refusal.the-variants.{OutOfRange, Inexact}
+use Rattle.calendar.specs.Answers.{dayNumber}
+use Rattle.calendar.proofs.Answering.{year-out}
+use Rattle.instant.specs.Instant.{instantAt, inRange, fieldsAnswer, dateIn, isClock, clockTime, instantAnswer}
 use Rattle.instant.specs.declared.Fields.{Fields}
 use Rattle.instant.specs.declared.FieldsAnswer.{FieldsAnswer}
 use Rattle.instant.specs.declared.InstantAnswer.{InstantAnswer}
-use Rattle.instant.proofs.Theorems.{shown, fields-past, fields-missing, fields-of-instant}
+use Rattle.instant.proofs.Theorems.{shown, refused-as-date, fields-had, fields-of-instant}
 use Rattle.axis_types.specs.declared.Axis.{Axis}
 use Rattle.axis_types.specs.declared.Reading.{Reading}
 use Rattle.axis_types.specs.declared.OffsetAnswer.{OffsetAnswer}
@@ -56,19 +57,18 @@ module _ (x : Axis) (g : GoodReference x) where
     at = instantAt (dayNumber (x .calendar) (dateIn f)) (clockTime f)
 
     has : instantAnswer (x .calendar) f ≡ InstantAnswer.Is at
-    unfolding instantAnswer dayAnswer
-    has = rw (h .year, h .there, h .clock)
+    has = sym (fields-had (x .calendar) f (h .year) (h .there) (h .clock))
 
     fields-at : fieldsAnswer (x .calendar) at ≡ FieldsAnswer.Is f
     fields-at = fields-of-instant (x .calendar) f at has
 
-    fields-written : WritesExactly x at (uppinaloWriteFields (axisCode x) f)
+    pub fields-written : WritesExactly x at (uppinaloWriteFields (axisCode x) f)
     fields-written =
         let i = shown (x .calendar) at f fields-at .inside in
         subst (WritesExactly x at) (sym (write-is x (λ (a : Axis). writeFieldsOn a f) ∙ ap ofOffset (Axes.fields-written x f at has i))) (exactly at i (writeInstantOn x at) refl)
 
   -- fields that are refused are refused so when they are written
-  refused-fields : (f : Fields) (r : Refusal) → instantAnswer (x .calendar) f ≡ InstantAnswer.Refused r → uppinaloWriteFields (axisCode x) f ≡ noOffset r
+  pub refused-fields : (f : Fields) (r : Refusal) → instantAnswer (x .calendar) f ≡ InstantAnswer.Refused r → uppinaloWriteFields (axisCode x) f ≡ noOffset r
   refused-fields f r e = write-is x (λ (a : Axis). writeFieldsOn a f) ∙ ap ofOffset (Axes.fields-refused x (good-in x g) f r e)
 
   pub writing : WritingBack x
@@ -77,6 +77,5 @@ module _ (x : Axis) (g : GoodReference x) where
         instant = instant-written;
         instant-past = λ t h. write-is x (λ (a : Axis). writeInstantOn a t) ∙ ap ofOffset (Axes.writing x (good-in x g) .instant-past t h);
         fields = λ f h. (at f h, fields-is (x .calendar) (at f h) ∙ ap ofFields (fields-at f h), fields-written f h);
-        year-past = λ f h. refused-fields f OutOfRange (fields-past (x .calendar) f h);
-        no-fields = λ f h k. refused-fields f NoSuchDate (fields-missing (x .calendar) f h k);
+        year-past = λ f h. refused-fields f OutOfRange (sym (refused-as-date true (x .calendar) f OutOfRange (year-out (isClock f) (x .calendar) (dateIn f) h)));
       }

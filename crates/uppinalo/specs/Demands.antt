@@ -1,10 +1,10 @@
 -- The three demands, stated of the calls of include/uppinalo.h: of what each call promises (the definitions that have a call's name in the
 -- other files of this folder), whatever it is handed. The last record, `Demands`, has them all; proofs/Demands.antt proves it. What is
--- demanded of the calls about datetime64 arrays alone stands in Arrays.antt.
+-- demanded of the calls about datetime64 arrays alone stands in Arrays.antt, and why a date is refused in RefusedDates.antt.
 -- An axis crosses the boundary by its codes: `axisCode x` is what a caller hands in for the axis x, and `calendarCode c` for the calendar c.
 -- `CodesOfAxes` says that these codes name it, and that no others do; `OtherCodes` what calls with codes that name nothing answer.
 use mathlib.Core.Path.{_≡_}
-use mathlib.Core.Bool.{Bool, true, false, _&&_, cond}
+use mathlib.Core.Bool.{Bool, true, false, cond}
 use mathlib.Core.List.{List, [], _∷_, _++_, map}
 use mathlib.Core.Logic.{_↔_}
 use mathlib.Core.Option.{none, some}
@@ -16,7 +16,7 @@ use lib.Ieee.{Float, nan, inf, fin, le}
 use mir.Syntax.{w64}
 use mir.Val.{SFits}
 use Rattle.refusal.specs.declared.Refusal.{Refusal}
-use Rattle.refusal.specs.declared.Refusal.the-variants.{TextTooLong, UnknownCalendar, IllFormed, NoSuchDate, OutOfRange, NoRoom, NotFinite}
+use Rattle.refusal.specs.declared.Refusal.the-variants.{TextTooLong, UnknownCalendar, IllFormed, OutOfRange, NoRoom, NotFinite}
 use Rattle.calendar.specs.Calendar.{date, epoch, exists, DaysOn, dateOf, inYears}
 use Rattle.calendar.specs.declared.Calendar.{Calendar}
 use Rattle.calendar.specs.declared.Calendar.the-variants.{ProlepticGregorian}
@@ -55,6 +55,7 @@ use Rattle.uppinalo.specs.Texts.{ofInstant, ofAxis, noLength, uppinaloRe
 use Rattle.uppinalo.specs.Fragments.{uppinaloStartUnits, uppinaloAddUnits, uppinaloAddUnitsState, uppinaloEndUnits, uppinaloEndUnitsState}
 use Rattle.uppinalo.specs.Datetime64.{uppinaloReadDatetime64, uppinaloReadDatetime64Destination, uppinaloWriteDatetime64, uppinaloWriteDatetime64Records}
 use Rattle.uppinalo.specs.Arrays.{Arrays}
+use Rattle.uppinalo.specs.RefusedDates.{RefusedDates}
 use Rattle.uppinalo.specs.declared.days.UppinaloDateAnswer.{UppinaloDateAnswer}
 use Rattle.uppinalo.specs.declared.days.UppinaloDayAnswer.{UppinaloDayAnswer}
 use Rattle.uppinalo.specs.declared.days.UppinaloFieldsAnswer.{UppinaloFieldsAnswer}
@@ -168,10 +169,9 @@ pub record DatesByNextDay (c : Calendar) : Type 0 where
   pub date-of-day : (n : ℤ) (d : Date) → IsDay c n d → uppinaloDateOfDay (calendarCode c) n ≡ cond (inYears (d .year)) (record { number = 0; date = d }) (noDate OutOfRange)
   -- so are the fields of an instant, which are the date of its day and its time of day
   pub fields-of : (t : ℤ) (d : Date) → IsDay c (dayOf t) d → uppinaloFieldsOf (calendarCode c) t ≡ cond (inYears (d .year)) (fieldsGiven (fieldsAt d (timeOf t))) (noFields OutOfRange)
-  -- and back; a date is refused for its year first, then where the calendar has none such
+  -- and back; a date is refused for its year first, and then as `RefusedDates` says
   pub day-of-date : (n : ℤ) (d : Date) → IsDay c n d → inYears (d .year) ≡ true → uppinaloDayOfDate (calendarCode c) d ≡ record { number = 0; day = n }
   pub year-past : (x : Date) → inYears (x .year) ≡ false → uppinaloDayOfDate (calendarCode c) x ≡ noDay OutOfRange
-  pub no-date : (x : Date) → inYears (x .year) ≡ true → exists c x ≡ false → uppinaloDayOfDate (calendarCode c) x ≡ noDay NoSuchDate
 
 -- on an axis of days with a good reference, whose date is r, d lies n days after r
 pub record DaysFromReference (x : Axis) (n : ℤ) (r d : Date) : Type 0 where
@@ -202,10 +202,9 @@ pub record HasFields (c : Calendar) (f : Fields) : Type 0 where
 pub record WritingBack (x : Axis) : Type 0 where
   pub instant : (t : ℤ) → inRange (x .calendar) t ≡ true → WritesExactly x t (uppinaloWriteInstant (axisCode x) t)
   pub instant-past : (t : ℤ) → inRange (x .calendar) t ≡ false → uppinaloWriteInstant (axisCode x) t ≡ noOffset OutOfRange
-  -- fields that the calendar has are those of an instant; others are refused for the year first, then where there are none such
+  -- fields that the calendar has are those of an instant; others are refused for the year first, and then as `RefusedDates` says
   pub fields : (f : Fields) → HasFields (x .calendar) f → (t : ℤ) × (uppinaloFieldsOf (calendarCode (x .calendar)) t ≡ fieldsGiven f) × WritesExactly x t (uppinaloWriteFields (axisCode x) f)
   pub year-past : (f : Fields) → inYears (f .year) ≡ false → uppinaloWriteFields (axisCode x) f ≡ noOffset OutOfRange
-  pub no-fields : (f : Fields) → inYears (f .year) ≡ true → (exists (x .calendar) (dateIn f) && isClock f) ≡ false → uppinaloWriteFields (axisCode x) f ≡ noOffset NoSuchDate
 
 -- ---- demand 2: texts, refused with 1, 2, 3 in that order
 
@@ -318,6 +317,7 @@ pub record Demands : Type 0 where
   pub days-there : (x : Axis) → GoodReference x → x .period ≡ Period.Day → (n : ℤ) → (r : Date) × (d : Date) × DaysFromReference x n r d
   pub days : (x : Axis) (n : ℤ) (r d : Date) → DaysFromReference x n r d → DaysRead x n d
   pub writing : (x : Axis) → GoodReference x → WritingBack x
+  pub refused-dates : RefusedDates
   pub texts : (name text : List ℕ) (c : Calendar) → length text ≤ 128 → calendarOf name ≡ some c → TextsByGrammar name text c
   pub before-texts : (name text : List ℕ) → TextsBeforeGrammar name text
   pub fragments : TextsInFragments

@@ -5,4 +5,5 @@ pub mod Datetime64
 pub mod Offsets
 pub mod Runs
 pub mod Arrays
+pub mod RefusedDates
 pub mod Demands

@@ -4,19 +4,20 @@ use mathlib.Core.Bool.{Bool, true, false}
 use Prim.Native.Nat.{ℕ, zero, suc, _+_, _-_, _≤_, _<_}
 use native.Mathlib.Omega.{arith}
 use lib.IntN.{ℤ, pos, negsuc, subℕ, _+ℤ_, _-ℤ_, +ℤ-idr, negℤ-negℤ}
-use borrow.Author.Tests.{lt-ltb, le-ltb}
-use Rattle.refusal.specs.declared.Refusal.{Refusal}
+use lib.Dec.{ltb}
+use borrow.Author.Tests.{ltb-true}
+use Rattle.signed.proofs.Tests.{and-parts}
 use Rattle.signed.specs.Bias.{unbiased}
 use Rattle.signed.proofs.Differences.{by-sign, sub-low, sub-high, same-diff}
 use Rattle.calendar.specs.declared.Calendar.{Calendar}
-use Rattle.instant.specs.Instant.{inRange, instantAnswer}
+use Rattle.instant.specs.Instant.{inRange, instantWith}
 use Rattle.instant.specs.declared.Fields.{Fields}
 use Rattle.instant.specs.declared.InstantAnswer.{InstantAnswer}
-use Rattle.instant.proofs.Theorems.{shown, fields-of-instant}
+use Rattle.instant.proofs.Theorems.{placed, shown, fields-of-instant}
 use Rattle.date_text.specs.declared.Zone.{Zone}
 use Rattle.date_text.specs.declared.WrittenDate.{WrittenDate}
 use Rattle.signed.specs.Sign.{withSign}
-use Rattle.written_instant.specs.Instants.{zoneLength, ahead, ranged, lessZone}
+use Rattle.written_instant.specs.Instants.{isZone, zoneLength, ranged, lessZone}
 
 -- ---- sums and differences
 
@@ -47,9 +48,11 @@ no-zone t false m e = sym (+ℤ-idr t) ∙ ap (λ (n : ℕ). t -ℤ withSign fal
 
 -- ---- the range
 
--- the instant of fields lies in range
-pub local-range : (c : Calendar) (f : Fields) (t : ℤ) → instantAnswer c f ≡ InstantAnswer.Is t → inRange c t ≡ true
-local-range c f t h = shown c t f (fields-of-instant c f t h) .inside
+-- the instant of fields lies in range, and what stands beside them is possible
+pub local-range : (rest : Bool) (c : Calendar) (f : Fields) (t : ℤ) → instantWith rest c f ≡ InstantAnswer.Is t → (rest ≡ true) × (inRange c t ≡ true)
+local-range rest c f t h =
+    let b = placed rest c f t h .beside in
+    (b, shown c t f (fields-of-instant c f t (ap (λ (r : Bool). instantWith r c f) (sym b) ∙ h)) .inside)
 
 -- ---- a local instant less a zone
 
@@ -66,18 +69,13 @@ withYear y w =
     }
 
 module _ (c : Calendar) (z : Zone) (t : ℤ) where
-  pub bad-hours : 24 ≤ z .hours → InstantAnswer.Refused Refusal.NoSuchDate ≡ lessZone c z (InstantAnswer.Is t)
-  bad-hours h = rw (le-ltb (z .hours) 24 h)
+  pub zone-zero : inRange c t ≡ true → zoneLength z ≡ 0 → InstantAnswer.Is t ≡ lessZone c z (InstantAnswer.Is t)
+  zone-zero r e =
+      let s : ranged c t ≡ InstantAnswer.Is t = rw r in
+      sym s ∙ ap (ranged c) (no-zone t (z .behind) (zoneLength z) e)
 
-  module _ (h : z .hours < 24) where
-    pub bad-minutes : 60 ≤ z .minutes → InstantAnswer.Refused Refusal.NoSuchDate ≡ lessZone c z (InstantAnswer.Is t)
-    bad-minutes m = rw (lt-ltb (z .hours) 24 h, le-ltb (z .minutes) 60 m)
-
-    module _ (m : z .minutes < 60) where
-      pub zone-off : (u : ℤ) → u ≡ t -ℤ ahead z → ranged c u ≡ lessZone c z (InstantAnswer.Is t)
-      zone-off u e = rw (lt-ltb (z .hours) 24 h, lt-ltb (z .minutes) 60 m) (ap (ranged c) e)
-
-      pub zone-zero : inRange c t ≡ true → zoneLength z ≡ 0 → InstantAnswer.Is t ≡ lessZone c z (InstantAnswer.Is t)
-      zone-zero r e =
-          let s : ranged c t ≡ InstantAnswer.Is t = rw r in
-          sym s ∙ zone-off t (no-zone t (z .behind) (zoneLength z) e)
+-- a zone that is possible is less than a day
+pub zone-parts : (z : Zone) → isZone z ≡ true → (z .hours < 24) × (z .minutes < 60)
+zone-parts z h =
+    let w = and-parts (ltb (z .hours) 24) (ltb (z .minutes) 60) h in
+    (ltb-true (z .hours) 24 (w .0), ltb-true (z .minutes) 60 (w .1))

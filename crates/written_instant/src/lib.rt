@@ -3,11 +3,12 @@ ghost use mathlib.Core.Path.{_≡_};
 ghost use mathlib.Core.Bool.{true};
 ghost use Rattle.instant.specs.Instant.{inRange};
 ghost use Rattle.instant.specs.declared.InstantAnswer.{InstantAnswer};
-ghost use Rattle.written_instant.specs.Instants.{ranged, lessZone, writtenInstant};
+ghost use Rattle.written_instant.specs.Instants.{isZone, ranged, lessZone, writtenInstant};
 use calendar::Calendar;
 use date_text::WrittenDate;
 use date_text::Zone;
 use instant::Fields;
+use instant::FoundInstant;
 use instant::InstantAnswer;
 use refusal::Refusal;
 
@@ -21,17 +22,21 @@ fn ranged_instant(c: Calendar, t: i64) -> InstantAnswer
     return InstantAnswer::Refused(Refusal::OutOfRange);
 }
 
-// A local instant less a zone.
-fn less_zone(c: Calendar, z: Zone, t: i64) -> InstantAnswer
-    requires { ⌜ inRange c t ≡ true ⌝ }
-    ensures { λ r. ⌜ r ≡ lessZone c z (InstantAnswer.Is t) ⌝ }
+// Whether a zone is possible.
+fn is_zone(z: Zone) -> bool
+    ensures { λ r. ⌜ r ≡ isZone z ⌝ }
 {
     if 24 <= z.hours {
-        return InstantAnswer::Refused(Refusal::NoSuchDate);
+        return false;
     }
-    if 60 <= z.minutes {
-        return InstantAnswer::Refused(Refusal::NoSuchDate);
-    }
+    return z.minutes < 60;
+}
+
+// A local instant less a zone.
+fn less_zone(c: Calendar, z: Zone, t: i64) -> InstantAnswer
+    requires { ⌜ (isZone z ≡ true) × (inRange c t ≡ true) ⌝ }
+    ensures { λ r. ⌜ r ≡ lessZone c z (InstantAnswer.Is t) ⌝ }
+{
     let m = ((z.hours as u64) * 60 + (z.minutes as u64)) * 60000000;
     if m == 0 {
         return InstantAnswer::Is(t);
@@ -43,7 +48,7 @@ fn less_zone(c: Calendar, z: Zone, t: i64) -> InstantAnswer
     return ranged_instant(c, signed::unbiased(k - m));
 }
 
-// The instant of a written date.
+// The instant of a written date: its zone stands beside the local fields.
 pub fn written_instant(c: Calendar, w: WrittenDate) -> InstantAnswer
     ensures { λ r. ⌜ r ≡ writtenInstant c w ⌝ }
 {
@@ -58,8 +63,10 @@ pub fn written_instant(c: Calendar, w: WrittenDate) -> InstantAnswer
         second: t.second,
         microsecond: t.microsecond,
     };
-    match instant::instant_of(c, f) {
-        InstantAnswer::Refused(r) => return InstantAnswer::Refused(r),
-        InstantAnswer::Is(u) => return less_zone(c, z, u),
+    match instant::found_instant(c, f, is_zone(z)) {
+        FoundInstant::Is(u) => return less_zone(c, z, u),
+        FoundInstant::Nothing => {
+            return InstantAnswer::Refused(instant::fields_refusal(c, f, is_zone(z)));
+        }
     }
 }

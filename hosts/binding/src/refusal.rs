@@ -8,7 +8,7 @@ pub enum Refusal {
     TextTooLong,
     UnknownCalendar,
     IllFormed,
-    NoSuchDate,
+    ImpossibleField,
     OutOfRange,
     Inexact,
     NoRoom,
@@ -16,6 +16,8 @@ pub enum Refusal {
     PartRecord,
     NotATime,
     NotOpen,
+    MissingDate,
+    DroppedDate,
     /// A number for which this crate has no name.
     Other(u32),
 }
@@ -26,7 +28,7 @@ impl Refusal {
             1 => Refusal::TextTooLong,
             2 => Refusal::UnknownCalendar,
             3 => Refusal::IllFormed,
-            4 => Refusal::NoSuchDate,
+            4 => Refusal::ImpossibleField,
             5 => Refusal::OutOfRange,
             6 => Refusal::Inexact,
             7 => Refusal::NoRoom,
@@ -34,6 +36,8 @@ impl Refusal {
             9 => Refusal::PartRecord,
             10 => Refusal::NotATime,
             11 => Refusal::NotOpen,
+            12 => Refusal::MissingDate,
+            13 => Refusal::DroppedDate,
             _ => Refusal::Other(number),
         }
     }
@@ -43,7 +47,7 @@ impl Refusal {
             Refusal::TextTooLong => 1,
             Refusal::UnknownCalendar => 2,
             Refusal::IllFormed => 3,
-            Refusal::NoSuchDate => 4,
+            Refusal::ImpossibleField => 4,
             Refusal::OutOfRange => 5,
             Refusal::Inexact => 6,
             Refusal::NoRoom => 7,
@@ -51,6 +55,8 @@ impl Refusal {
             Refusal::PartRecord => 9,
             Refusal::NotATime => 10,
             Refusal::NotOpen => 11,
+            Refusal::MissingDate => 12,
+            Refusal::DroppedDate => 13,
             Refusal::Other(number) => number,
         }
     }
@@ -62,7 +68,9 @@ impl Refusal {
             Refusal::IllFormed => {
                 "the text is not of the form that its grammar gives, or a code names no period or mode"
             }
-            Refusal::NoSuchDate => "the date or the time of day does not exist in the calendar",
+            Refusal::ImpossibleField => {
+                "a field is one that no date has, such as month 13, day 32, hour 24 or zone hour 24: look for a typing error"
+            }
             Refusal::OutOfRange => "the year or the instant lies past -9999 to 9999",
             Refusal::Inexact => {
                 "no whole offset or number of the unit reads as the instant; the double is not whole in calendar mode; the number is no whole count of microseconds"
@@ -72,6 +80,10 @@ impl Refusal {
             Refusal::PartRecord => "the bytes are no whole number of records",
             Refusal::NotATime => "the record is not-a-time",
             Refusal::NotOpen => "the fragments of the units text have ended, or the state is damaged",
+            Refusal::MissingDate => {
+                "the calendar has no such year or day, such as year 0 or 30 February: look whether it is the calendar that was meant"
+            }
+            Refusal::DroppedDate => "the calendar left this day out: in `standard` 1582-10-15 comes after 1582-10-04",
             Refusal::Other(_) => "a refusal that this crate has no words for",
         }
     }

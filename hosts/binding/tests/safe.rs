@@ -26,7 +26,7 @@ fn words() {
         TextTooLong,
         UnknownCalendar,
         IllFormed,
-        NoSuchDate,
+        ImpossibleField,
         OutOfRange,
         Inexact,
         NoRoom,
@@ -34,6 +34,8 @@ fn words() {
         PartRecord,
         NotATime,
         NotOpen,
+        MissingDate,
+        DroppedDate,
     ] {
         let row = format!("\n| {} | {} |\n", refusal.number(), refusal.words());
         assert!(readme.contains(&row), "{refusal}");
@@ -47,14 +49,57 @@ fn days() {
     }
     let day = Calendar::Standard.day_of_date(Date { year: 1582, month: 10, day: 4 }).unwrap();
     assert_eq!(Calendar::Standard.date_of_day(day + 1), Ok(Date { year: 1582, month: 10, day: 15 }));
-    assert_eq!(
-        Calendar::Standard.day_of_date(Date { year: 1582, month: 10, day: 5 }).unwrap_err(),
-        Refusal::NoSuchDate
-    );
     let first = Calendar::Julian.day_of_date(Date { year: 1, month: 1, day: 1 }).unwrap();
     assert_eq!(Calendar::Julian.date_of_day(first - 1), Ok(Date { year: -1, month: 12, day: 31 }));
-    assert_eq!(Calendar::Julian.day_of_date(Date { year: 0, month: 1, day: 1 }).unwrap_err(), Refusal::NoSuchDate);
     assert_eq!(Calendar::Julian.date_of_day(i64::MAX), Err(Refusal::OutOfRange));
+}
+
+/// A date may be missing or dropped in one calendar and good in another; a mistyped one is good in none.
+#[test]
+fn refused_dates() {
+    if !are_exported(&["day_of_date"]) {
+        return;
+    }
+    let refusal = |calendar: Calendar, year, month, day| calendar.day_of_date(Date { year, month, day }).err();
+    for (month, day) in [(0, 1), (13, 1), (1, 0), (1, 32), (13, 32)] {
+        assert_eq!(refusal(Calendar::Julian, 0, month, day), Some(Refusal::ImpossibleField));
+    }
+    assert_eq!(refusal(Calendar::Julian, 0, 1, 1), Some(Refusal::MissingDate));
+    assert_eq!(refusal(Calendar::Noleap, 0, 1, 1), None);
+    assert_eq!(refusal(Calendar::Day360, 2000, 1, 31), Some(Refusal::MissingDate));
+    assert_eq!(refusal(Calendar::Day360, 2000, 2, 30), None);
+    assert_eq!(refusal(Calendar::AllLeap, 2000, 2, 30), Some(Refusal::MissingDate));
+    for day in 5..15 {
+        assert_eq!(refusal(Calendar::Standard, 1582, 10, day), Some(Refusal::DroppedDate));
+        assert_eq!(refusal(Calendar::Julian, 1582, 10, day), None);
+    }
+    assert_eq!(refusal(Calendar::Standard, 10_000, 13, 32), Some(Refusal::OutOfRange));
+}
+
+#[test]
+fn refused_dates_in_texts() {
+    if !are_exported(&["read_units", "read_iso", "start_units", "add_units", "end_units"]) {
+        return;
+    }
+    let cases = [
+        ("standard", "1900-13-01", Refusal::ImpossibleField),
+        ("standard", "1900-02-30T24:00", Refusal::ImpossibleField),
+        ("standard", "1582-10-05T00+24", Refusal::ImpossibleField),
+        ("360_day", "1900-01-31 00:00 +00:60", Refusal::ImpossibleField),
+        ("standard", "1900-02-30", Refusal::MissingDate),
+        ("julian", "0000-01-01", Refusal::MissingDate),
+        ("360_day", "1900-01-31", Refusal::MissingDate),
+        ("standard", "1582-10-05", Refusal::DroppedDate),
+        ("gregorian", "1582-10-14T23:59:59.999999-23:59", Refusal::DroppedDate),
+    ];
+    for (calendar, date, refusal) in cases {
+        let units = format!("days since {date}");
+        assert_eq!(read_iso(calendar, date), Err(refusal), "{date}");
+        assert_eq!(Axis::of_units(calendar, &units), Err(refusal), "{date}");
+        let mut reader = UnitsReader::new();
+        reader.add(units.as_bytes());
+        assert_eq!(reader.end(calendar), Err(refusal), "{date}");
+    }
 }
 
 #[test]
@@ -153,8 +198,15 @@ fn writing() {
     assert_eq!(days.write(6 * NOON), Ok(3));
     assert_eq!(days.write(NOON), Err(Refusal::Inexact));
     let fields = Fields { year: 1970, month: 2, day: 30, ..Default::default() };
-    assert_eq!(days.write_fields(fields), Err(Refusal::NoSuchDate));
+    assert_eq!(days.write_fields(fields), Err(Refusal::MissingDate));
+    assert_eq!(days.write_fields(Fields { hour: 24, ..fields }), Err(Refusal::ImpossibleField));
+    assert_eq!(days.write_fields(Fields { year: 10_000, ..fields }), Err(Refusal::OutOfRange));
     assert_eq!(days.write_fields(Fields { day: 29, ..fields }), Ok(59));
+    let standard = Axis { calendar: Calendar::Standard, ..days };
+    let dropped = Fields { year: 1582, month: 10, day: 14, hour: 12, ..Default::default() };
+    assert_eq!(standard.write_fields(dropped), Err(Refusal::DroppedDate));
+    assert_eq!(standard.write_fields(Fields { minute: 60, ..dropped }), Err(Refusal::ImpossibleField));
+    assert_eq!(standard.write_fields(Fields { day: 15, ..dropped }), Err(Refusal::Inexact));
 }
 
 #[test]

@@ -68,15 +68,16 @@ pub fn unknown_code(random: &mut Random, known: u32) -> u32 {
     random.pick(&[known, known + 1, u32::MAX, 1 << 31, 256, 65_536])
 }
 
-fn good_axis(random: &mut Random) -> Axis {
-    let calendar = random.below(6) as u32;
+/// An axis of a known calendar, its reference in range.
+pub fn good_axis(random: &mut Random, calendar: u32) -> Axis {
     let reference = reference(random, calendar);
     Axis { calendar, period: random.below(8) as u32, mode: random.below(2) as u32, reference }
 }
 
 /// An axis and the kind it is of; most are good.
 pub fn axis(random: &mut Random) -> (&'static str, Axis) {
-    let good = good_axis(random);
+    let calendar = random.below(6) as u32;
+    let good = good_axis(random, calendar);
     match random.below(60) {
         0 => ("axis with an unknown calendar", Axis { calendar: unknown_code(random, 6), ..good }),
         1 => ("axis with an unknown period", Axis { period: unknown_code(random, 8), ..good }),

@@ -3,7 +3,7 @@
 use crate::axes;
 use crate::run::Run;
 use answers::Date;
-use samples::instants;
+use samples::{borders, instants};
 use second::boundary;
 use uppinalo::boundary as archive;
 
@@ -45,10 +45,9 @@ fn one_date(run: &mut Run, kind: &'static str, calendar: u32, date: Date) {
     run.judge(kind, second.number, &(calendar, date), archive::day_of_date(calendar, date), second);
 }
 
-/// All months 0 to 13 and days 0 to 32 of a year.
 fn one_year(run: &mut Run, kind: &'static str, calendar: u32, year: i64) {
-    for place in 0..14 * 33 {
-        one_date(run, kind, calendar, Date { year, month: place / 33, day: place % 33 });
+    for date in borders::dates_of_year(year) {
+        one_date(run, kind, calendar, date);
     }
 }
 

@@ -5,7 +5,8 @@ use crate::run::Run;
 use crate::states::{Calls, States};
 use crate::texts::Input;
 use answers::AxisAnswer;
-use samples::fragments::{cuts, fragment, state, texts};
+use samples::borders;
+use samples::fragments::{cut, cuts, fragment, state, texts};
 use samples::texts::calendar_name;
 use second::boundary;
 use std::ptr::null;
@@ -60,13 +61,13 @@ pub fn add_units(run: &mut Run) {
     }
 }
 
-/// The end of what was added, and then more.
-fn end(states: &mut States, kind: &'static str, fragments: &[&[u8]]) {
-    let name = calendar_name(&mut states.run.random);
-    let answer = states.compare(kind, &END, &name);
+/// The fragments and their end, and then more.
+fn end(states: &mut States, kind: &'static str, fragments: &[&[u8]], name: &[u8]) {
+    add_each(states, "fragments before the end", fragments);
+    let answer = states.compare(kind, &END, name);
     let text = fragments.concat();
-    let is_same = answer == archive::read_units(&name, &text);
-    states.run.expect(kind, &Input(&name, &text), is_same, "the joined text reads otherwise");
+    let is_same = answer == archive::read_units(name, &text);
+    states.run.expect(kind, &Input(name, &text), is_same, "the joined text reads otherwise");
     let name = calendar_name(&mut states.run.random);
     states.compare("a second end", &END, &name);
     add_after_the_end(states);
@@ -77,9 +78,15 @@ pub fn end_units(run: &mut Run) {
     let (of_any, of_each_length) = (states.run.count(4_000, 60_000), states.run.count(2, 30));
     for text in texts(&mut states.run.random, of_any, of_each_length) {
         for (kind, fragments) in cuts(&mut states.run.random, &text) {
-            add_each(&mut states, "fragments before the end", &fragments);
-            end(&mut states, kind, &fragments);
+            let name = calendar_name(&mut states.run.random);
+            end(&mut states, kind, &fragments, &name);
         }
+    }
+    for (calendar, date) in borders::dates(states.run.count(1, 20) as usize) {
+        let (name, date) = borders::text(&mut states.run.random, calendar, date);
+        let text = format!("s since {date}");
+        let fragments = cut(&mut states.run.random, text.as_bytes());
+        end(&mut states, "fields at their borders", &fragments, name.as_bytes());
     }
     for _ in 0..states.run.count(100_000, 1_500_000) {
         let (kind, state) = state(&mut states.run.random);

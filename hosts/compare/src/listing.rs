@@ -1,7 +1,7 @@
 //! The listing program against the second program's listing, on lines good and damaged, long and short.
 
 use crate::run::Run;
-use samples::lines;
+use samples::{borders, lines};
 use std::io::Write;
 use std::path::{Path, PathBuf};
 use std::process::{Command, Stdio};
@@ -36,6 +36,10 @@ pub fn listing(run: &mut Run) {
     let mut drawn = Vec::new();
     for _ in 0..run.count(200_000, 3_000_000) {
         drawn.push(lines::line(&mut run.random));
+    }
+    for (calendar, date) in borders::dates(run.count(1, 20) as usize) {
+        let (name, date) = borders::text(&mut run.random, calendar, date);
+        drawn.push(("fields at their borders", format!("{name}|s since {date}|0").into_bytes()));
     }
     let input: Vec<u8> = drawn.iter().flat_map(|(_, line)| line.iter().chain(b"\n")).copied().collect();
     let output = printed(&input);

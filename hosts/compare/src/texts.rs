@@ -3,7 +3,7 @@
 use crate::axes;
 use crate::lent::Lender;
 use crate::run::Run;
-use samples::texts;
+use samples::{borders, texts};
 use second::boundary;
 use std::fmt::{Debug, Formatter};
 use uppinalo::boundary as archive;
@@ -44,6 +44,15 @@ fn one_text<A: PartialEq + Debug>(
     run.expect(kind, &input, is_kept, "a lent text or what lies beside it is changed");
 }
 
+/// Both read dates at the borders of their fields, after the start of a text.
+fn at_borders<A: PartialEq + Debug>(run: &mut Run, lenders: &mut [Lender; 2], start: &str, calls: &Calls<A>) {
+    for (calendar, date) in borders::dates(run.count(3, 60) as usize) {
+        let (name, date) = borders::text(&mut run.random, calendar, date);
+        let text = format!("{start}{date}");
+        one_text(run, lenders, "fields at their borders", Input(name.as_bytes(), text.as_bytes()), calls);
+    }
+}
+
 pub fn read_units(run: &mut Run) {
     let mut lenders = [Lender::with_room(MOST), Lender::with_room(MOST)];
     let calls = Calls { archive: archive::read_units, second: boundary::read_units, number: |answer| answer.number };
@@ -52,6 +61,7 @@ pub fn read_units(run: &mut Run) {
         let (kind, text) = texts::units(&mut run.random);
         one_text(run, &mut lenders, kind, Input(&name, &text), &calls);
     }
+    at_borders(run, &mut lenders, "s since ", &calls);
     let null = unsafe { uppinalo::raw::uppinalo_read_units(std::ptr::null(), 0, std::ptr::null(), 0) };
     run.judge("empty, null pointers", 3, &"", null, boundary::read_units(b"", b""));
 }
@@ -64,6 +74,7 @@ pub fn read_iso(run: &mut Run) {
         let (kind, text) = texts::iso(&mut run.random);
         one_text(run, &mut lenders, kind, Input(&name, &text), &calls);
     }
+    at_borders(run, &mut lenders, "", &calls);
     let null = unsafe { uppinalo::raw::uppinalo_read_iso(std::ptr::null(), 0, std::ptr::null(), 0) };
     run.judge("empty, null pointers", 3, &"", null, boundary::read_iso(b"", b""));
 }

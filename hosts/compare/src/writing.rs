@@ -4,7 +4,7 @@ use crate::axes;
 use crate::offsets::joined;
 use crate::run::Run;
 use answers::{Axis, Fields};
-use samples::{Random, instants, wholes};
+use samples::{Random, borders, instants, wholes};
 use second::boundary;
 use uppinalo::boundary as archive;
 
@@ -60,14 +60,23 @@ fn damaged(random: &mut Random, fields: Fields) -> (&'static str, Fields) {
     }
 }
 
+fn one_writing(run: &mut Run, kind: &'static str, axis: Axis, fields: Fields) {
+    let second = boundary::write_fields(axis, fields);
+    run.on(axis, 1);
+    run.judge(kind, second.number, &(axis, fields), archive::write_fields(axis, fields), second);
+}
+
 pub fn write_fields(run: &mut Run) {
     for _ in 0..run.count(300_000, 14_000_000) {
         let (axis_kind, axis) = axes::axis(&mut run.random);
         let (kind, instant) = instant(&mut run.random, axis);
         let good = boundary::fields_of(axis.calendar.min(5), instant).fields;
         let (kind, fields) = if run.random.one_in(2) { damaged(&mut run.random, good) } else { (kind, good) };
-        let second = boundary::write_fields(axis, fields);
-        run.on(axis, 1);
-        run.judge(joined(axis_kind, kind), second.number, &(axis, fields), archive::write_fields(axis, fields), second);
+        one_writing(run, joined(axis_kind, kind), axis, fields);
+    }
+    for (calendar, date) in borders::dates(run.count(3, 60) as usize) {
+        let axis = axes::good_axis(&mut run.random, calendar);
+        let fields = borders::fields(&mut run.random, date);
+        one_writing(run, "fields at their borders", axis, fields);
     }
 }

@@ -19,8 +19,10 @@ TEXTS = [
     ("", b"days since 1970-01-01\0", 3),
     ("", "days since 197\u0660".encode(), 3),
     ("", b"\xffdays since 1970", 3),
-    ("standard", b"days since 1582-10-05", 4),
-    ("360_day", b"days since 1970-01-31", 4),
+    ("standard", b"days since 1582-10-05T00+24", 4),
+    ("360_day", b"days since 1970-01-31 24:00", 4),
+    ("360_day", b"days since 1970-01-31", 12),
+    ("standard", b"days since 1582-10-05", 13),
     ("standard", b"days since 9999-12-31 23-01", 5),
 ]
 

@@ -27,8 +27,16 @@ READ = [
     ("julian", "calendar years since -5-02-29", 5, "0001-02-28"),
 ]
 REFUSED = [
-    ("standard", "days since 1582-10-05", 4),
-    ("julian", "days since 0000-01-01", 4),
+    ("standard", "days since 1900-13-01", 4),
+    ("standard", "days since 1900-02-30T24:00", 4),
+    ("standard", "days since 1582-10-05T00+24", 4),
+    ("standard", "days since 0000-13-01", 4),
+    ("standard", "days since 1900-02-30", 12),
+    ("julian", "days since 0000-01-01", 12),
+    ("360_day", "days since 9999-12-31 23-01", 12),
+    ("noleap", "days since 2000-02-29", 12),
+    ("standard", "days since 1582-10-05", 13),
+    ("standard", "days since 1582-10-14 23:59:59.999999 -23:59", 13),
     ("standard", "ss since 1970", 3),
     ("standard", "days since 1970-01-01Z", 3),
     ("standard", "days since 1970-01-01" + " " * 108, 1),
@@ -149,8 +157,13 @@ class Writing(unittest.TestCase):
             (Fields(2000, 13), 4),
             (Fields(2000, 1, 1, -1), 4),
             (Fields(2000, 1, 1, 0, 0, 0, 2**32), 4),
+            (Fields(0, 13), 4),
+            (Fields(1900, 2, 30, 24), 4),
+            (Fields(1582, 10, 5, 0, 0, 60), 4),
+            (Fields(0), 12),
+            (Fields(1900, 2, 29, 1), 12),
+            (Fields(1582, 10, 14, 1), 13),
             (Fields(2000, 1, 1, 1), 6),
-            (Fields(0), 4),
         ]:
             with self.assertRaises(Refused) as caught:
                 axis.write(fields)

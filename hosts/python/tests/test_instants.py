@@ -27,9 +27,21 @@ class Days(unittest.TestCase):
     def test_cutover(self):
         day = day_of_date(Date(1582, 10, 4), Calendar.STANDARD)
         self.assertEqual(date_of_day(day + 1, Calendar.STANDARD), Date(1582, 10, 15))
-        with self.assertRaises(Refused) as caught:
-            day_of_date(Date(1582, 10, 5), Calendar.STANDARD)
-        self.assertEqual((caught.exception.number, caught.exception.place), (4, None))
+
+    @needs("day_of_date")
+    def test_mistyped_missing_and_dropped(self):
+        for date, calendar, number in [
+            (Date(0, 13), Calendar.STANDARD, 4),
+            (Date(2000, 1, 32), Calendar.DAYS_360, 4),
+            (Date(0), Calendar.JULIAN, 12),
+            (Date(2000, 1, 31), Calendar.DAYS_360, 12),
+            (Date(2000, 2, 30), Calendar.ALL_LEAP, 12),
+            (Date(1582, 10, 5), Calendar.STANDARD, 13),
+            (Date(1582, 10, 14), Calendar.STANDARD, 13),
+        ]:
+            with self.assertRaises(Refused) as caught:
+                day_of_date(date, calendar)
+            self.assertEqual((caught.exception.number, caught.exception.place), (number, None), date)
 
     @needs("day_of_date")
     def test_numbers_of_any_size(self):
@@ -115,7 +127,7 @@ class Names(unittest.TestCase):
         for calendar in (Calendar.STANDARD, Calendar.JULIAN):
             with self.assertRaises(Refused) as caught:
                 day_of_date(Date(0, 1, 1), calendar)
-            self.assertEqual(caught.exception.number, 4)
+            self.assertEqual(caught.exception.number, 12)
 
     @needs("read_units")
     def test_unknown_names(self):
@@ -156,7 +168,10 @@ class IsoTexts(unittest.TestCase):
             ("1970-01-01t00", "", 3),
             ("\u0661970", "", 3),
             ("1970\0", "", 3),
-            ("1582-10-05", "", 4),
+            ("1582-10-05T24", "", 4),
+            ("1970-01-31 00+24", "360_day", 4),
+            ("1970-01-31", "360_day", 12),
+            ("1582-10-05", "", 13),
             ("9999-12-31 23:00-01:00", "", 5),
         ]:
             with self.assertRaises(Refused) as caught:

@@ -9,7 +9,7 @@ WORDS = {
     1: "the text is longer than 128 bytes",
     2: "the calendar is not one of the six",
     3: "the text is not of the form that its grammar gives, or a code names no period or mode",
-    4: "the date or the time of day does not exist in the calendar",
+    4: "a field is one that no date has, such as month 13, day 32, hour 24 or zone hour 24: look for a typing error",
     5: "the year or the instant lies past -9999 to 9999",
     6: "no whole offset or number of the unit reads as the instant; the double is not whole in calendar mode; the number is no whole count of microseconds",
     7: "too little room was lent",
@@ -17,6 +17,8 @@ WORDS = {
     9: "the bytes are no whole number of records",
     10: "the record is not-a-time",
     11: "the fragments of the units text have ended, or the state is damaged",
+    12: "the calendar has no such year or day, such as year 0 or 30 February: look whether it is the calendar that was meant",
+    13: "the calendar left this day out: in `standard` 1582-10-15 comes after 1582-10-04",
 }
 
 

@@ -20,7 +20,7 @@ pub fn texts(random: &mut Random, of_any: u64, of_each_length: u64) -> Vec<Vec<u
 }
 
 /// The text cut at some places, of which two may be the same.
-fn cut<'a>(random: &mut Random, text: &'a [u8]) -> Vec<&'a [u8]> {
+pub fn cut<'a>(random: &mut Random, text: &'a [u8]) -> Vec<&'a [u8]> {
     let count = random.below(12);
     let mut places: Vec<usize> = (0..count).map(|_| random.below(text.len() as u64 + 1) as usize).collect();
     if random.one_in(2) {

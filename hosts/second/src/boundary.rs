@@ -3,7 +3,8 @@
 
 use crate::calendar::Date;
 use crate::codes::*;
-use crate::days::{date_of_day, day_of_date};
+use crate::days::date_of_day;
+use crate::fields::{Fields, UTC, tested_day};
 use crate::reading::Reading;
 use crate::refusal::Refusal;
 use crate::runs::Refused;
@@ -51,14 +52,10 @@ pub fn date_of_day_number(calendar: u32, day: i64) -> answers::DateAnswer {
     }
 }
 
-/// A year past the range is refused before a date that does not exist.
 pub fn day_number_of_date(calendar: u32, date: answers::Date) -> answers::DayAnswer {
     let answers::Date { year, month, day } = date;
-    let number = |calendar| match year {
-        -9999..=9999 => day_of_date(calendar, Date::new(year, month, day)).ok_or(Refusal::NoSuchDate),
-        _ => Err(Refusal::OutOfRange),
-    };
-    match calendar_of(calendar).and_then(number) {
+    let midnight = Fields::midnight(Date::new(year, month, day));
+    match calendar_of(calendar).and_then(|calendar| tested_day(calendar, midnight, UTC)) {
         Ok(day) => answers::DayAnswer { number: 0, day },
         Err(refusal) => answers::DayAnswer { number: refusal.number(), ..Default::default() },
     }

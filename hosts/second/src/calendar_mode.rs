@@ -3,7 +3,8 @@
 use crate::axis::Axis;
 use crate::calendar::Date;
 use crate::days::{day_of_date, month_after, year_after};
-use crate::instant::{Fields, count_of_fields, fields_of};
+use crate::fields::{Fields, UTC};
+use crate::instant::{count_of_fields, fields_of};
 use crate::refusal::Refusal;
 
 /// The reference with its month moved so many months, its day and time of day kept.
@@ -27,5 +28,5 @@ fn placed(axis: Axis, fields: Fields, year: i64, month: u32) -> Result<i128, Ref
     while day_of_date(axis.calendar, date).is_none() {
         date.day -= 1;
     }
-    count_of_fields(axis.calendar, Fields { date, ..fields })
+    count_of_fields(axis.calendar, Fields { date, ..fields }, UTC)
 }

@@ -2,7 +2,7 @@
 
 use crate::axis::{Axis, Mode, PERIODS};
 use crate::calendar::{CALENDARS, Calendar, Date};
-use crate::instant::Fields;
+use crate::fields::Fields;
 use crate::reading::Reading;
 use crate::refusal::Refusal;
 use crate::runs::{Counts, Refused};

@@ -1,7 +1,8 @@
 //! The date rule with time and zone, and the instant that a date names (document 01, "The units text").
 
 use crate::calendar::{Calendar, Date};
-use crate::instant::{Fields, HOUR, MINUTE, count_of_fields, instant_of_count};
+use crate::fields::{Fields, UTC, Zone};
+use crate::instant::{count_of_fields, instant_of_count};
 use crate::refusal::Refusal;
 use crate::ways::{Ways, digits, either, map, maybe, number, then, word, word_in_any_case};
 
@@ -25,7 +26,7 @@ struct WrittenDay {
     time: Option<WrittenTime>,
 }
 
-#[derive(Clone, Copy, PartialEq, Eq, Debug, Default)]
+#[derive(Clone, Copy, PartialEq, Eq, Debug)]
 struct WrittenTime {
     clock: Clock,
     zone: Zone,
@@ -37,14 +38,6 @@ struct Clock {
     minute: u32,
     second: u32,
     microsecond: u32,
-}
-
-/// What local time is ahead of UTC, or behind it.
-#[derive(Clone, Copy, PartialEq, Eq, Debug, Default)]
-struct Zone {
-    is_behind: bool,
-    hours: u32,
-    minutes: u32,
 }
 
 pub fn date(text: &[u8]) -> Ways<'_, WrittenDate> {
@@ -72,10 +65,7 @@ fn day(text: &[u8]) -> Ways<'_, WrittenDay> {
 
 fn time(text: &[u8]) -> Ways<'_, WrittenTime> {
     let marked = then(either(word(text, b"T"), word(text, b" ")), hour);
-    map(then(marked, |rest| maybe(rest, zone)), |(((), clock), zone)| WrittenTime {
-        clock,
-        zone: zone.unwrap_or_default(),
-    })
+    map(then(marked, |rest| maybe(rest, zone)), |(((), clock), zone)| WrittenTime { clock, zone: zone.unwrap_or(UTC) })
 }
 
 fn hour(text: &[u8]) -> Ways<'_, Clock> {
@@ -113,7 +103,7 @@ fn zone(text: &[u8]) -> Ways<'_, Zone> {
 fn named_zone(text: &[u8]) -> Ways<'_, Zone> {
     let names = [&b"Z"[..], b"UTC", b"GMT"];
     let ways = names.iter().flat_map(|name| word_in_any_case(text, name)).collect();
-    map(ways, |()| Zone::default())
+    map(ways, |()| UTC)
 }
 
 fn signed_zone(text: &[u8]) -> Ways<'_, Zone> {
@@ -135,24 +125,18 @@ impl WrittenDate {
     }
 
     /// The local date and time, and the zone. Month and day default to 1, the time to midnight.
-    fn fields(&self) -> (Fields, Zone) {
+    pub fn fields(&self) -> (Fields, Zone) {
         let month = self.month.clone().unwrap_or(WrittenMonth { month: 1, day: None });
         let day = month.day.unwrap_or(WrittenDay { day: 1, time: None });
-        let WrittenTime { clock, zone } = day.time.unwrap_or_default();
+        let WrittenTime { clock, zone } = day.time.unwrap_or(WrittenTime { clock: Clock::default(), zone: UTC });
         let date = Date::new(self.year(), month.month, day.day);
         let Clock { hour, minute, second, microsecond } = clock;
         (Fields { date, hour, minute, second, microsecond }, zone)
     }
 
-    /// The instant that the date names. The local time must exist; the zone is taken off afterwards.
+    /// The instant that the date names.
     pub fn instant(&self, calendar: Calendar) -> Result<i64, Refusal> {
         let (local, zone) = self.fields();
-        let count = count_of_fields(calendar, local)?;
-        if zone.hours > 23 || zone.minutes > 59 {
-            return Err(Refusal::NoSuchDate);
-        }
-        let ahead = zone.hours as i64 * HOUR + zone.minutes as i64 * MINUTE;
-        let utc = if zone.is_behind { count + ahead as i128 } else { count - ahead as i128 };
-        instant_of_count(calendar, utc)
+        instant_of_count(calendar, count_of_fields(calendar, local, zone)?)
     }
 }

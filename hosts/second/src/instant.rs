@@ -1,22 +1,9 @@
 //! Instants and their fields (document 01, "Instants and axes").
 
-use crate::calendar::{Calendar, Date};
-use crate::days::{date_of_day, day_of_date};
+use crate::calendar::Calendar;
+use crate::days::date_of_day;
+use crate::fields::{DAY, Fields, HOUR, MINUTE, SECOND, Zone, tested_day};
 use crate::refusal::Refusal;
-
-pub const HOUR: i64 = 3_600_000_000;
-pub const MINUTE: i64 = 60_000_000;
-pub const SECOND: i64 = 1_000_000;
-const DAY: i128 = 86_400_000_000;
-
-#[derive(Clone, Copy, PartialEq, Eq, Debug)]
-pub struct Fields {
-    pub date: Date,
-    pub hour: u32,
-    pub minute: u32,
-    pub second: u32,
-    pub microsecond: u32,
-}
 
 /// The last day that does not begin after a count of microseconds.
 fn day_of_count(count: i128) -> i128 {
@@ -36,10 +23,10 @@ pub fn instant_of_count(calendar: Calendar, count: i128) -> Result<i64, Refusal>
 }
 
 /// How many whole units a rest of microseconds holds; they are taken from it.
-fn taken(rest: &mut i128, unit: i64) -> u32 {
+fn taken(rest: &mut i128, unit: i128) -> u32 {
     let mut number = 0;
-    while *rest >= unit as i128 {
-        *rest -= unit as i128;
+    while *rest >= unit {
+        *rest -= unit;
         number += 1;
     }
     number
@@ -56,15 +43,14 @@ pub fn fields_of(calendar: Calendar, instant: i64) -> Result<Fields, Refusal> {
     Ok(Fields { date, hour, minute, second, microsecond: rest as u32 })
 }
 
-/// The count of microseconds of some fields; refused where they do not exist.
-pub fn count_of_fields(calendar: Calendar, fields: Fields) -> Result<i128, Refusal> {
-    if fields.hour > 23 || fields.minute > 59 || fields.second > 59 || fields.microsecond > 999_999 {
-        return Err(Refusal::NoSuchDate);
-    }
-    let day = day_of_date(calendar, fields.date).ok_or(Refusal::NoSuchDate)?;
-    let clock = fields.hour as i64 * HOUR
-        + fields.minute as i64 * MINUTE
-        + fields.second as i64 * SECOND
-        + fields.microsecond as i64;
-    Ok(day as i128 * DAY + clock as i128)
+/// The count of microseconds of a local time, from which its zone is taken off; refused where there is no such time.
+pub fn count_of_fields(calendar: Calendar, local: Fields, zone: Zone) -> Result<i128, Refusal> {
+    let day = tested_day(calendar, local, zone)?;
+    let clock = local.hour as i128 * HOUR
+        + local.minute as i128 * MINUTE
+        + local.second as i128 * SECOND
+        + local.microsecond as i128;
+    let count = day as i128 * DAY + clock;
+    let ahead = zone.hours as i128 * HOUR + zone.minutes as i128 * MINUTE;
+    Ok(if zone.is_behind { count + ahead } else { count - ahead })
 }

@@ -2,6 +2,7 @@
 //! compared.
 //!
 //! - Day numbers come from a table that the next-day rule fills day by day (`days`).
+//! - The months and days that are possible are those that a walk through the calendars meets (`fields`).
 //! - A double is an exact fraction of big integers (`dyadic`), and rounding compares exact remainders (`nearest`).
 //! - A text is matched in every way that its grammar allows (`ways`, `date_text`, `units_text`, `datetime64_type`).
 //! - Of a text in fragments each byte is put at its place alone (`fragments`).
@@ -19,6 +20,7 @@ pub mod datetime64;
 pub mod datetime64_type;
 pub mod days;
 pub mod dyadic;
+pub mod fields;
 pub mod fragments;
 pub mod instant;
 pub mod integer;

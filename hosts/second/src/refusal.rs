@@ -5,7 +5,7 @@ pub enum Refusal {
     TextTooLong = 1,
     UnknownCalendar = 2,
     IllFormed = 3,
-    NoSuchDate = 4,
+    ImpossibleField = 4,
     OutOfRange = 5,
     Inexact = 6,
     NoRoom = 7,
@@ -13,6 +13,8 @@ pub enum Refusal {
     PartRecord = 9,
     NotATime = 10,
     NotOpen = 11,
+    MissingDate = 12,
+    DroppedDate = 13,
 }
 
 impl Refusal {

@@ -30,7 +30,7 @@ const PERIOD_WORDS: [(&[u8], Period); 15] = [
 pub struct WrittenUnits {
     mode: Mode,
     period: Period,
-    date: WrittenDate,
+    pub date: WrittenDate,
 }
 
 /// A period word or its plural; `s` has no plural.

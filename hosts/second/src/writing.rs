@@ -2,7 +2,8 @@
 //! Later offsets read as later instants, so the offsets are halved until one is left.
 
 use crate::axis::Axis;
-use crate::instant::{Fields, count_of_fields, fields_of, instant_of_count};
+use crate::fields::{Fields, UTC};
+use crate::instant::{count_of_fields, fields_of, instant_of_count};
 use crate::reading::{read_whole, tested};
 use crate::refusal::Refusal;
 
@@ -40,9 +41,6 @@ pub fn write_instant(axis: Axis, instant: i64) -> Result<i64, Refusal> {
 
 pub fn write_fields(axis: Axis, fields: Fields) -> Result<i64, Refusal> {
     tested(axis)?;
-    if fields.date.year < -9999 || fields.date.year > 9999 {
-        return Err(Refusal::OutOfRange);
-    }
-    let count = count_of_fields(axis.calendar, fields)?;
+    let count = count_of_fields(axis.calendar, fields, UTC)?;
     write_instant(axis, instant_of_count(axis.calendar, count)?)
 }

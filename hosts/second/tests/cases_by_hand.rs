@@ -1,8 +1,9 @@
-//! The cases by hand of document 01, and the years of `julian` before year 1 (document 02, CR 2).
+//! The cases by hand of document 01 with the numbers of document 02, and the years of `julian` before year 1 (document 02, CR 2).
 
 use second::axis::{Axis, Mode, Period};
 use second::calendar::{Calendar, Date};
-use second::instant::{Fields, fields_of};
+use second::fields::Fields;
+use second::instant::fields_of;
 use second::iso::{iso_text, read_iso};
 use second::reading::{read_double, read_whole};
 use second::refusal::Refusal;
@@ -56,8 +57,8 @@ fn years_of_julian() {
     assert_eq!(written("days since 1-01-01", "-1-12-31"), Ok(-1));
     assert_eq!(written("calendar years since 1-06-15", "-2-06-15"), Ok(-2));
     assert_eq!(written("days since 1970-01-01", "-9999-01-01"), Ok(-4_371_312));
-    assert_eq!(written("days since 1970-01-01", "0000-01-01"), Err(Refusal::NoSuchDate));
-    assert_eq!(read_units(b"julian", b"days since 0000-01-01").unwrap_err().number(), 4);
+    assert_eq!(written("days since 1970-01-01", "0000-01-01"), Err(Refusal::MissingDate));
+    assert_eq!(read_units(b"julian", b"days since 0000-01-01").unwrap_err().number(), 12);
 }
 
 #[test]
@@ -98,7 +99,7 @@ fn written_months() {
     let at = |text: &str| read_iso(b"standard", text.as_bytes()).unwrap();
     assert_eq!(write_instant(axis, at("1930-02-28")), Ok(1));
     assert_eq!(write_instant(axis, at("1930-02-27")), Err(Refusal::Inexact));
-    let midnight = |day| Fields { date: Date::new(1930, 2, day), hour: 0, minute: 0, second: 0, microsecond: 0 };
+    let midnight = |day| Fields::midnight(Date::new(1930, 2, day));
     assert_eq!(write_fields(axis, midnight(28)), Ok(1));
     assert_eq!(write_fields(axis, midnight(27)), Err(Refusal::Inexact));
 }
@@ -106,7 +107,7 @@ fn written_months() {
 #[test]
 fn refused_units() {
     let refused = |text: &str| read_units(b"standard", text.as_bytes()).unwrap_err().number();
-    assert_eq!(refused("days since 1582-10-05"), 4);
+    assert_eq!(refused("days since 1582-10-05"), 13);
     assert_eq!(refused("ss since 1970"), 3);
     assert_eq!(refused("days since 1970-01-01Z"), 3);
 }

@@ -59,11 +59,13 @@ fn no_bytes() {
 
 #[test]
 fn refused_ends() {
-    let cases: [(&[u8], &[u8], u32); 5] = [
+    let cases: [(&[u8], &[u8], u32); 7] = [
         (b"tai", b"s since 1970", 2),
         (b"Tai", b"q", 2),
         (b"", b"q", 3),
-        (b"360_day", b"s since 1970-01-31", 4),
+        (b"360_day", b"s since 1970-01-32", 4),
+        (b"360_day", b"s since 1970-01-31", 12),
+        (b"", b"s since 1582-10-05", 13),
         (b"", b"s since 9999-12-31 23:00 -01:00", 5),
     ];
     for (name, text, number) in cases {

@@ -1,4 +1,4 @@
-//! The listing program's example of document 01, and the edges of its lines.
+//! The listing program's example of document 01 with the numbers of document 02, and the edges of its lines.
 
 use second::listing::{answer, listing};
 
@@ -12,7 +12,7 @@ fn example() {
     let output = "1582-10-15T00:00:00.000000Z\n\
         2023-03-01T00:00:00.000000Z\n\
         1900-02-29T00:00:00.000000Z\n\
-        refused 4\n\
+        refused 12\n\
         1970-01-01T00:00:00.007812Z rounded\n";
     assert_eq!(listing(input), output);
     assert_eq!(listing(&input[..input.len() - 1]), output);
@@ -68,6 +68,8 @@ fn order() {
     assert_eq!(answer(b"tai|q|0"), "refused 2");
     assert_eq!(answer(b"|q|0"), "refused 3");
     assert_eq!(answer(b"|days since 1970-13|x7ff0000000000000"), "refused 4");
+    assert_eq!(answer(b"|days since 1970-02-30|x7ff0000000000000"), "refused 12");
+    assert_eq!(answer(b"|days since 1582-10-05|x7ff0000000000000"), "refused 13");
     assert_eq!(answer(b"|days since 9999-12-31 23-01|x7ff0000000000000"), "refused 5");
     assert_eq!(answer(b"|calendar days since 1970|x7ff0000000000000"), "refused 8");
     assert_eq!(answer(b"|calendar days since 1970|x3fe0000000000000"), "refused 6");

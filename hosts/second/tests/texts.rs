@@ -67,28 +67,10 @@ fn dates() {
             "s since 1970-01-01T",
         ],
     );
-    all(
-        4,
-        &[
-            "s since 0",
-            "s since -0",
-            "s since 0000",
-            "s since 1970-0",
-            "s since 1970-13",
-            "s since 1970-1-0",
-            "s since 1970-2-29",
-        ],
-    );
-    all(
-        4,
-        &[
-            "s since 1582-10-14",
-            "s since 1970-99-99",
-            "s since 1970-1-1 24",
-            "s since 1970-1-1 0:60",
-            "s since 1970-1-1 0:0:60",
-        ],
-    );
+    all(4, &["s since 1970-0", "s since 1970-13", "s since 1970-1-0", "s since 1970-1-32", "s since 1970-99-99"]);
+    all(4, &["s since 1970-1-1 24", "s since 1970-1-1 0:60", "s since 1970-1-1 0:0:60"]);
+    all(12, &["s since 0", "s since -0", "s since 0000", "s since 1970-2-29"]);
+    all(13, &["s since 1582-10-5", "s since 1582-10-14"]);
 }
 
 #[test]

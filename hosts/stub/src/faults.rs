@@ -1,5 +1,6 @@
 //! Faults that the comparison tests must find, one at a time: UPPINALO_FAULT names it, and the call with the fault has the name's start.
 
+pub mod dates;
 pub mod datetime64;
 pub mod fragments;
 
@@ -117,7 +118,7 @@ pub fn day_of_date_in_the_gap(calendar: u32, date: Date) -> DayAnswer {
     if is_dropped { boundary::day_number_of_date(0, Date { day: 15, ..date }) } else { answer }
 }
 
-/// A date that does not exist is refused before a year past the range.
+/// A month that no date has is refused before a year past the range.
 pub fn write_fields_4_before_5(axis: Axis, fields: Fields) -> OffsetAnswer {
     let answer = boundary::write_fields(axis, fields);
     if answer.number == 5 && fields.month > 12 { OffsetAnswer { number: 4, offset: 0 } } else { answer }

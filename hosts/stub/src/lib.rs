@@ -27,7 +27,7 @@ unsafe extern "C" fn uppinalo_read_units(
     if faults::is_on("read_units_with_space") {
         return faults::read_units_with_space(name, text);
     }
-    boundary::read_units(name, text)
+    faults::dates::read_units(name, text)
 }
 
 #[unsafe(no_mangle)]
@@ -54,7 +54,7 @@ unsafe extern "C" fn uppinalo_read_iso(name: *const u8, name_len: usize, text: *
     if faults::is_on("read_iso_lower_case") {
         return faults::read_iso_lower_case(name, text);
     }
-    boundary::read_iso(name, text)
+    faults::dates::read_iso(name, text)
 }
 
 #[unsafe(no_mangle)]
@@ -93,7 +93,7 @@ extern "C" fn uppinalo_day_of_date(calendar: u32, date: Date) -> DayAnswer {
     if faults::is_on("day_of_date_julian_year_0_taken") {
         return faults::day_of_date_julian_year_0_taken(calendar, date);
     }
-    boundary::day_number_of_date(calendar, date)
+    faults::dates::day_of_date(calendar, date)
 }
 
 #[unsafe(no_mangle)]
@@ -128,7 +128,7 @@ extern "C" fn uppinalo_write_fields(axis: Axis, fields: Fields) -> OffsetAnswer 
     if faults::is_on("write_fields_4_before_5") {
         return faults::write_fields_4_before_5(axis, fields);
     }
-    boundary::write_fields(axis, fields)
+    faults::dates::write_fields(axis, fields)
 }
 
 #[unsafe(no_mangle)]

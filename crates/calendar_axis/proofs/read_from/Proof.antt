@@ -40,7 +40,7 @@ instant-at-requires c κs =
     let z = c .before .day .given .0 .0 in
     let f = toZ-ofZ w64 z (record { sfits = c .known-told2 .given .0 .1 }) in
     let x = dateAfter (start d .args .part) (start d .args .c) (start d .args .n) (start d .args .s .date) in
-    (subst (λ (w : ℤ). mag w < 5000000) (sym f) (answered-small (start d .args .c) x z (sym (c .before .day .given .1) ∙ answer-is d)), start d .pre .1)
+    (subst (λ (w : ℤ). mag w < 5000000) (sym f) (answered-small true (start d .args .c) x z (sym (c .before .day .given .1) ∙ answer-is d)), start d .pre .1)
 
 returns-2 : tie.Need-returns-2
 returns-2 c =

@@ -43,7 +43,7 @@ module _ (b : tie.After-biased) where
 
   -- a date past the years is refused
   past : (z : ℤ) → z ≡ unbiased k → inYears (moved z .year) ≡ false → DayAnswer.Refused OutOfRange ≡ dayAnswer (start .args .c) (moved (start .args .n))
-  past z e h = year-out (start .args .c) (moved z) h ∙ ap (λ (u : ℤ). dayAnswer (start .args .c) (moved u)) (e ∙ offset-is)
+  past z e h = year-out true (start .args .c) (moved z) h ∙ ap (λ (u : ℤ). dayAnswer (start .args .c) (moved u)) (e ∙ offset-is)
 
 -- the month that is reached
 module _ (m : tie.After-month-after) where

@@ -1,6 +1,6 @@
 //! Faults in the reading of a units text in fragments.
 
-use super::chosen;
+use super::{chosen, dates};
 use answers::{AxisAnswer, UnitsState};
 use second::boundary::{add_units, end_units, read_units, start_units};
 
@@ -66,7 +66,8 @@ pub fn end(state: &mut UnitsState, name: &[u8]) -> AxisAnswer {
         }
         _ => {}
     }
-    answer
+    let text = before.bytes.get(..before.count as usize).unwrap_or_default();
+    dates::in_units("end_units", answer, name, text)
 }
 
 /// The call on the state as it is seen, where that one is open.

@@ -7,10 +7,10 @@ use lib.Dec.{leb}
 use Rattle.signed.proofs.Tests.{right-out}
 use Rattle.calendar.specs.Calendar.{exists, date, hasYearZero}
 use Rattle.calendar.specs.Plain.{monthDays}
-use Rattle.calendar.specs.Closed.{yearAt, counts, isDropped, ruleAt, kindAt}
+use Rattle.calendar.specs.Closed.{yearAt, counts, inGap, ruleAt, kindAt}
 use Rattle.calendar.specs.declared.rule.Rule.{Rule}
 use Rattle.calendar.proofs.Years.{kind-low}
-use Rattle.calendar.proofs.Counting.{Parts, not-at, day-test, exists-by, hasDayAt}
+use Rattle.calendar.proofs.Counting.{Parts, not-at, by-length, exists-by, hasDayAt}
 use borrow.Author.Needs.{needs}
 use Rattle.calendar.proofs.ordinal.exists_in_year.Statement.{statement}
 use Rattle.calendar.proofs.ordinal.exists_in_year.Tie as tie
@@ -26,13 +26,13 @@ module _ (s : tie.Start) where
   wrong : (Parts rule (s .args .y) (s .args .month) (s .args .day) → ⊥) → false ≡ there
   wrong f =
       sym (exists-by (s .args .c) (s .args .y) (s .args .month) (s .args .day)
-      ∙ right-out (not (isDropped (counts (s .args .c)) (s .args .y) (s .args .month) (s .args .day))) (hasDayAt rule (s .args .y) (s .args .month) (s .args .day)) (not-at rule (s .args .y) (s .args .month) (s .args .day) f))
+      ∙ right-out (not (inGap (counts (s .args .c)) (s .args .y) (s .args .month) (s .args .day))) (hasDayAt rule (s .args .y) (s .args .month) (s .args .day)) (not-at rule (s .args .y) (s .args .month) (s .args .day) f))
 
 -- once it is known whether the date was dropped
-tested : (d : tie.After-is-dropped) (t : Bool) → d .is-dropped .result ≡ t → let s = d .before .before .before .before in (not t && hasDayAt (rule s) (s .args .y) (s .args .month) (s .args .day)) ≡ there s
+tested : (d : tie.After-is-in-gap) (t : Bool) → d .is-in-gap .result ≡ t → let s = d .before .before .before .before in (not t && hasDayAt (rule s) (s .args .y) (s .args .month) (s .args .day)) ≡ there s
 tested d t e =
     let s = d .before .before .before .before in
-    ap (λ (t : Bool). not t && hasDayAt (rule s) (s .args .y) (s .args .month) (s .args .day)) (sym e ∙ d .is-dropped .ensures) ∙ sym (exists-by (s .args .c) (s .args .y) (s .args .month) (s .args .day))
+    ap (λ (t : Bool). not t && hasDayAt (rule s) (s .args .y) (s .args .month) (s .args .day)) (sym e ∙ d .is-in-gap .ensures) ∙ sym (exists-by (s .args .c) (s .args .y) (s .args .month) (s .args .day))
 
 returns : tie.Need-returns
 returns c = wrong (c .before) (λ v. omega (arith, v .month-low, c .if1 .taken))
@@ -63,7 +63,7 @@ returns-5 c =
     let t = f .before .before in
     let s = t .before .before .before in
     ap (leb (s .args .day)) (c .month-length .ensures ∙ ap (λ (j : ℕ). monthDays j (s .args .month - 1)) (kind-is k))
-    ∙ (sym (day-test (rule s) (s .args .y) (s .args .month) (s .args .day) (omega (arith, t .before .before .if1 .left)) (omega (arith, t .before .if2 .left)) (omega (arith, t .if3 .left)))
+    ∙ (sym (by-length (rule s) (s .args .y) (s .args .month) (s .args .day) (omega (arith, t .before .before .if1 .left)) (omega (arith, t .before .if2 .left)) (omega (arith, t .if3 .left)))
     ∙ tested (f .before) false (f .if4 .left))
 
 pub exists-in-year-spec : {M : Type 1} → statement M
