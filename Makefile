@@ -40,7 +40,7 @@ faults:   # that the comparison finds faults
 fuzz:     # the C boundary used at random, a million times
 	hosts/fuzz/run 1000000 2
 
-peers:    # the same axes through cftime, xarray, NumPy and UDUNITS; installs Debian packages
+peers:    # the same axes through cftime, xarray, NumPy, UDUNITS and ERFA; installs Debian packages
 	peers/run
 
 bench:    # speed beside plain Rust

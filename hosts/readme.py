@@ -20,7 +20,7 @@ ROOT = pathlib.Path(__file__).resolve().parent.parent
 EXAMPLES = {
     "c": ["hosts/c/example.c"],
     "rust": ["hosts/binding/examples/example.rs"],
-    "python": ["hosts/python/example.py", "hosts/python/datetime64.py", "hosts/python/fragments.py"],
+    "python": [f"hosts/python/{name}.py" for name in ("example", "datetime64", "fragments", "tt2000")],
 }
 STUB = [
     ("target/staticlib/", "target/stub/"),
@@ -45,6 +45,7 @@ def needed(commands):
         "example": set(re.findall(r"uppinalo_(\w+)\(", example)),
         "datetime64.py": {"read_datetime64", "write_datetime64", "write_iso"},
         "fragments.py": {"start_units", "add_units", "end_units", "fields_of", "read_whole", "write_iso"},
+        "tt2000.py": {"read_tt2000", "write_tt2000"},
         "target/bin/listing": {"listing"},
     }
     return set().union(*(named for word, named in calls.items() if word in commands))

@@ -2,13 +2,14 @@
  *
  * Every answer is a struct by value, or its number alone. The number is 0, or that of a refusal, and then every other field is zero,
  * but for the place of a run's refused offset, and nothing lent is written, but for the state of a units text that a refused end ends.
- * A lent run or text may be empty, with a null pointer. Lent buffers do not overlap.
+ * A lent run, text or list may be empty, with a null pointer. Lent buffers do not overlap.
  *
  * number  1 text over 128 bytes    2 unknown calendar    3 ill-formed text, or no such period or mode
  *         4 a field no date has    5 out of range        6 no such whole offset or number, or what is read is not whole
  *         7 too little room        8 double not finite   9 no whole number of records
  *        10 not-a-time            11 fragments have ended, or the state is damaged
  *        12 no such year or day in this calendar        13 one of the ten days that standard dropped in October 1582
+ *        14 bad list of leap seconds                    15 before 1972
  * Of a date with several faults 4 (month 13, day 32, hour 24, zone hour 24) comes before 12 (year 0, 30 February) and 13.
  */
 #ifndef UPPINALO_H
@@ -49,6 +50,8 @@ enum { UPPINALO_FIXED = 0, UPPINALO_CALENDAR = 1 };
 typedef struct { uint32_t calendar, period, mode; int64_t reference; } uppinalo_axis;
 typedef struct { int64_t year; uint32_t month, day; } uppinalo_date;
 typedef struct { int64_t year; uint32_t month, day, hour, minute, second, microsecond; } uppinalo_fields;
+/* UTC: second 60 is a leap second, the last of the day before a record's day of the list, the first record's left out. */
+typedef struct { int64_t year; uint32_t month, day, hour, minute, second, nanosecond; } uppinalo_utc_fields;
 
 /* A units text so far: `count` of its bytes, 129 once there are more than 128, and `ended`, which is 1 after the end. */
 typedef struct { uint32_t count, ended; uint8_t bytes[128]; } uppinalo_units_state;
@@ -61,6 +64,8 @@ typedef struct { uint32_t number; uppinalo_date date; } uppinalo_date_answer;
 typedef struct { uint32_t number; int64_t day; } uppinalo_day_answer;
 typedef struct { uint32_t number; size_t length; } uppinalo_length_answer;
 typedef struct { uint32_t number; size_t place, length, rounded; } uppinalo_run_answer;
+typedef struct { uint32_t number; uppinalo_utc_fields fields; } uppinalo_utc_fields_answer;
+typedef struct { uint32_t number; int64_t tt2000; } uppinalo_tt2000_answer;
 
 /* Texts: the calendar's name, empty for standard, and a units text or an ISO text. */
 uppinalo_axis_answer uppinalo_read_units(const uint8_t *calendar, size_t calendar_len, const uint8_t *text, size_t text_len);
@@ -95,6 +100,13 @@ uppinalo_run_answer uppinalo_read_doubles(uppinalo_axis axis, const double *sour
  * Lengths of records are in bytes, and places and lengths of answers in records. Bytes of the room after the records stay. */
 uppinalo_run_answer uppinalo_read_datetime64(const uint8_t *identifier, size_t identifier_len, const uint8_t *records, size_t records_len, int64_t *destination, size_t room);
 uppinalo_run_answer uppinalo_write_datetime64(const uint8_t *identifier, size_t identifier_len, const int64_t *instants, size_t n, uint8_t *records, size_t records_room);
+
+/* TT2000: nanoseconds from 2000-01-01T12:00:00 TT, and UTC fields of proleptic_gregorian. TT is ahead of UTC by 32.184 s and a count of leap
+ * seconds. The list of these is lent, and its length is in bytes: 1 to 64 records of 16 bytes, each two signed 64-bit little-endian numbers, a
+ * day number from 1970-01-01 and the count from that day on. The first is day 730 with count 10; days rise, and each count is one more. After
+ * the last record its count holds. Refused are in turn 14; of fields 4 and 12, in any year; 15 before 1972-01-01; 5 past 64 bits. */
+uppinalo_utc_fields_answer uppinalo_read_tt2000(const uint8_t *leap_seconds, size_t leap_seconds_len, int64_t tt2000);
+uppinalo_tt2000_answer uppinalo_write_tt2000(const uint8_t *leap_seconds, size_t leap_seconds_len, uppinalo_utc_fields fields);
 
 #ifdef __cplusplus
 }

@@ -1,10 +1,10 @@
 #!/usr/bin/env python3
-"""The same axes through cftime, xarray, NumPy, UDUNITS and through us, and datetime64 arrays through NumPy and through us. Prints
-the tables, and puts them into docs/PEERS.md.
+"""The same axes through cftime, xarray, NumPy, UDUNITS and through us, datetime64 arrays through NumPy and through us, and TT2000
+through ERFA and through us. Prints the tables, and puts them into docs/PEERS.md.
 
     peers/run       has what this needs, and runs it
 
-Every difference has one of the reasons in agreement.py or datetime64.py, or the run fails.
+Every difference has one of the reasons in agreement.py, datetime64.py or tt2000.py, or the run fails.
 """
 import os
 import pathlib
@@ -15,11 +15,12 @@ import agreement
 import axes
 import datetime64
 import timing
+import tt2000
 from others import OTHERS
 
 DOCUMENT = pathlib.Path(__file__).resolve().parent.parent / "docs" / "PEERS.md"
 BEGIN, END = "<!-- peers: begin -->\n", "<!-- peers: end -->\n"
-PACKAGES = ["python3-cftime", "python3-xarray", "python3-pandas", "python3-numpy", "libudunits2-0"]
+PACKAGES = ["python3-cftime", "python3-xarray", "python3-pandas", "python3-numpy", "libudunits2-0", "python3-erfa", "liberfa1"]
 
 
 def table(heads, rows):
@@ -76,6 +77,27 @@ def array_times(is_stub):
     return table(["nanoseconds for each record", "read by Uppinalo", "by NumPy", "written by Uppinalo", "by NumPy"], rows)
 
 
+def utc_times(cases):
+    rows = []
+    for what, numbers in cases.items():
+        count, *counts, farthest = tt2000.row(numbers)
+        rows.append([what, str(count), *map(cell, counts), f"{farthest:.3f}" if counts[1]["agree"] else "-"])
+    heads = ["times", "how many", "read", "written", "ERFA off by at most"]
+    return table(heads, rows) + "\n" + "".join(f"- **{why}**: {text}\n" for why, text in tt2000.REASONS.items())
+
+
+def utc_texts():
+    return table(["UTC", "Uppinalo", "ERFA"], map(tt2000.text_row, tt2000.TIMES))
+
+
+def utc_speeds(cases, is_stub):
+    rows = []
+    for what in ("nanoseconds within two seconds of a leap second", "nanoseconds of 1972 to 2029"):
+        best = tt2000.timed(cases[what], 2_000 if is_stub else 10_000, 100_000)
+        rows.append([what, *(f"{figure:.0f}" for figure in best)])
+    return table(["nanoseconds for each time", "read by Uppinalo", "by ERFA", "written by Uppinalo", "by ERFA"], rows)
+
+
 #: The cases that are timed, by what they are of, and the calendar of each.
 TIMED = [
     ("hours of 250 years, as doubles in days", "standard"),
@@ -101,7 +123,7 @@ def times(cases, is_stub):
 def main():
     is_stub = "target/stub" in os.environ["UPPINALO_LIBRARY"]
     ours = "**the second program in its place (hosts/stub), whose times mean nothing**" if is_stub else "the archive"
-    cases = axes.cases()
+    cases, utc_cases = axes.cases(), tt2000.cases()
     text = (
         f"Uppinalo is {ours}; the others are {versions()}.\n\n"
         f"How many of {axes.COUNT} offsets show the same date to the microsecond, and how many of the others differ for which "
@@ -116,7 +138,16 @@ def main():
         "times that the unit has:\n\n"
         f"{arrays()}\n"
         f"Time for each record, the best of {timing.LOTS} lots in the same run, times of 1850 to 2100 read to and written from microseconds:\n\n"
-        f"{array_times(is_stub)}"
+        f"{array_times(is_stub)}\n"
+        f"ERFA's list of leap seconds has from 1972 on the same {tt2000.same_records()} records as `data/{tt2000.FILE.name}`. How many TT2000 "
+        "numbers are read as the same UTC time, and how many of ERFA's UTC times are written as the same number, to the nanosecond; and by how "
+        "many nanoseconds ERFA's Julian date is at most off from our number before it is rounded:\n\n"
+        f"{utc_times(utc_cases)}\n"
+        "What each writes for a UTC time:\n\n"
+        f"{utc_texts()}\n"
+        f"Time for each, the best of {timing.LOTS} lots in the same run. Ours is a loop in Python with one call for each time, and ERFA's calls "
+        "take whole arrays:\n\n"
+        f"{utc_speeds(utc_cases, is_stub)}"
     )
     sys.stdout.write(text)
     before, rest = DOCUMENT.read_text().split(BEGIN)

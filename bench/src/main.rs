@@ -1,10 +1,10 @@
 //! Prints, for each call, the nanoseconds of the proved library and of plain Rust, and their ratio.
 //! The words after the command choose what is measured; none choose all.
 
-use bench::measure::{calendars, datetime64, fragments, listing, offsets, runs, texts};
+use bench::measure::{calendars, datetime64, fragments, listing, offsets, runs, texts, tt2000};
 use bench::timing;
 
-const MEASUREMENTS: [(&str, fn()); 13] = [
+const MEASUREMENTS: [(&str, fn()); 14] = [
     ("dates", calendars::dates),
     ("days", calendars::days),
     ("fields", calendars::fields),
@@ -18,6 +18,7 @@ const MEASUREMENTS: [(&str, fn()); 13] = [
     ("growth", runs::growth),
     ("datetime64", datetime64::arrays),
     ("fragments", fragments::fragments),
+    ("tt2000", tt2000::conversions),
 ];
 
 fn main() {

@@ -2,7 +2,7 @@
 
 use answers::*;
 use bench::plain;
-use samples::{Random, borders, damage, datetime64, fragments, identifiers, instants};
+use samples::{Random, borders, damage, datetime64, fragments, identifiers, instants, leap_seconds, tt2000};
 use second::boundary;
 use std::fmt::Debug;
 
@@ -205,5 +205,39 @@ fn datetime64_arrays() {
         let instants: Vec<i64> = (0..length).map(|_| datetime64::instant(&mut random, of.unit).1).collect();
         let write = plain::datetime64::write_datetime64;
         one_array(write, boundary::write_datetime64, &name, &instants, &vec![7; 8 * room + 1]);
+    }
+}
+
+fn read_tt2000(list: &[u8], number: i64) {
+    let answer = unsafe { plain::tt2000::read_tt2000(list.as_ptr(), list.len(), number) };
+    assert_eq!(answer, boundary::read_tt2000(list, number), "{number}");
+}
+
+fn write_tt2000(list: &[u8], fields: UtcFields) {
+    let answer = unsafe { plain::tt2000::write_tt2000(list.as_ptr(), list.len(), fields) };
+    assert_eq!(answer, boundary::write_tt2000(list, fields), "{fields}");
+}
+
+#[test]
+fn tt2000_with_good_lists() {
+    let mut random = Random::seeded(19);
+    let any = (0..100).map(|_| leap_seconds::good(&mut random)).collect();
+    for list in [leap_seconds::borders(), any].concat() {
+        tt2000::edges(&list).into_iter().for_each(|number| read_tt2000(&list, number));
+        for _ in 0..COUNT / 30 {
+            read_tt2000(&list, tt2000::number(&mut random, &list).1);
+            write_tt2000(&list, tt2000::fields(&mut random, &list).1);
+        }
+        tt2000::dates().for_each(|date| write_tt2000(&list, tt2000::at_borders(&mut random, date)));
+    }
+}
+
+#[test]
+fn tt2000_with_bad_lists() {
+    let mut random = Random::seeded(20);
+    let any = (0..COUNT).map(|_| leap_seconds::damaged(&mut random)).collect();
+    for (_, list) in [leap_seconds::near(leap_seconds::PUBLISHED), any].concat() {
+        read_tt2000(&list, random.bits() as i64);
+        write_tt2000(&list, tt2000::fields(&mut random, leap_seconds::PUBLISHED).1);
     }
 }

@@ -5,7 +5,7 @@ use std::path::Path;
 use std::{env, fs};
 
 /// `listing` is the program target/bin/listing.
-const CALLS: [&str; 18] = [
+const CALLS: [&str; 20] = [
     "read_units",
     "start_units",
     "add_units",
@@ -23,6 +23,8 @@ const CALLS: [&str; 18] = [
     "read_doubles",
     "read_datetime64",
     "write_datetime64",
+    "read_tt2000",
+    "write_tt2000",
     "listing",
 ];
 

@@ -1,4 +1,5 @@
-/* Inputs drawn from a seed: codes, instants, offsets, texts, states of texts and datetime64 arrays, good, damaged and at random. */
+/* Inputs drawn from a seed: codes, instants, offsets, texts, states of texts, datetime64 arrays and lists of leap seconds, good, damaged
+ * and at random. */
 #ifndef DRAW_H
 #define DRAW_H
 
@@ -140,14 +141,16 @@ static size_t name(uint8_t *room) {
     return below(10) == 0 ? damaged(room, length) : length;
 }
 
-/* A text, or any bytes, or none. */
-static size_t fragment(uint8_t *room) {
-    size_t length = below(6) == 0 ? 0 : (size_t)below(MOST_BYTES + 1);
-    if (below(2))
-        return text(room, 1);
+static size_t any_bytes(uint8_t *room, size_t length) {
     for (size_t i = 0; i < length; i++)
         room[i] = (uint8_t)bits();
     return length;
+}
+
+/* A text, or any bytes, or none. */
+static size_t fragment(uint8_t *room) {
+    size_t length = below(6) == 0 ? 0 : (size_t)below(MOST_BYTES + 1);
+    return below(2) ? text(room, 1) : any_bytes(room, length);
 }
 
 /* The state of a text, with any bytes after those that it counts; now and then with another count, or ended. */
@@ -196,6 +199,72 @@ static void array(datetime64_array *to, size_t n) {
     to->length = RECORD * n;
     if (n > 0 && below(16) == 0)
         to->length -= (size_t)below(RECORD);
+}
+
+enum { LEAP_RECORD = 16, MOST_LEAP_RECORDS = 64, MOST_LEAP_BYTES = LEAP_RECORD * (MOST_LEAP_RECORDS + 4) };
+
+/* Days that rise from 730 on, each by some or by very many; the greatest number is the last of them. */
+static int64_t later_day(int64_t day) {
+    uint64_t by = 1 + (below(8) == 0 ? bits() >> 1 >> below(63) : below(4000));
+    return by > (uint64_t)(INT64_MAX - day) ? INT64_MAX : day + (int64_t)by;
+}
+
+/* A list of leap seconds that is good, unless it has no records or more than 64. Answers its length. */
+static size_t rising_leap_seconds(uint8_t *room) {
+    int64_t records = below(16) == 0 ? 60 + (int64_t)below(9) : (int64_t)below(30), day = 730;
+    size_t length = 0;
+    for (int64_t i = 0; i < records; i++) {
+        put_record(room + length, day, 0);
+        put_record(room + length + RECORD, 10 + i, 0);
+        length += LEAP_RECORD;
+        if (day == INT64_MAX)
+            break;
+        day = later_day(day);
+    }
+    return length;
+}
+
+/* Such a list, or a damaged one, or any bytes. */
+static size_t leap_seconds(uint8_t *room) {
+    size_t length = rising_leap_seconds(room);
+    if (below(4) != 0)
+        return length;
+    if (below(4) == 0)
+        return any_bytes(room, (size_t)below(MOST_LEAP_BYTES + 1));
+    for (uint64_t changes = below(3); length > 0 && changes > 0; changes--)
+        room[below(length)] = (uint8_t)(below(2) ? below(4) : bits());
+    return below(2) ? (size_t)below(length + 1) : length;
+}
+
+static int64_t number_in(const uint8_t *record) {
+    uint64_t of = 0;
+    for (int i = RECORD - 1; i >= 0; i--)
+        of = of << 8 | record[i];
+    return (int64_t)of;
+}
+
+/* A TT2000: any, or within two seconds of the start of a listed day, where a leap second is. */
+static int64_t tt2000(const uint8_t *list, size_t n) {
+    const int64_t second = 1000000000, last_day = 117700;
+    if (n >= LEAP_RECORD && below(2)) {
+        const uint8_t *record = list + LEAP_RECORD * below(n / LEAP_RECORD);
+        int64_t day = number_in(record), counted = number_in(record + RECORD);
+        if (day >= 0 && day <= last_day && counted >= 0 && counted < 100)
+            return ((day - 10957) * 86400 - 43200 + counted + 30) * second + 184000000 + (int64_t)below(4 * (uint64_t)second);
+    }
+    return below(16) == 0 ? INT64_MIN + (int64_t)below(3) : number();
+}
+
+/* Fields of any date, now and then 23:59:60. */
+static uppinalo_utc_fields utc_fields(void) {
+    int64_t year = below(8) == 0 ? number() : 1960 + (int64_t)below(350);
+    uppinalo_utc_fields of = {year, field(1, 12), field(1, 31), field(0, 23), field(0, 59), field(0, 59), field(0, 999999999)};
+    if (below(4) == 0) {
+        of.hour = 23;
+        of.minute = 59;
+        of.second = 60;
+    }
+    return of;
 }
 
 #endif

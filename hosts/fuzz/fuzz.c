@@ -7,8 +7,8 @@
  *   - the answers are the same, the number is one of the table, and a refusal has zeros beside its number;
  *   - 4 and 13 are the answers to the fields that have them, and to no others;
  *   - what is lent to be read stays, what is lent to be written is written only where the answer says, and nothing beside it;
- *   - other calls agree: an offset or a record read is written back, an element of a run reads as it does alone, a text is read
- *     back, or in fragments as at once.
+ *   - other calls agree: an offset, a record or a TT2000 read is written back, an element of a run reads as it does alone, a text
+ *     is read back, or in fragments as at once.
  * The first failure ends the run with status 1. */
 #include "lent.h"
 
@@ -29,8 +29,10 @@
 #pragma weak uppinalo_read_doubles
 #pragma weak uppinalo_read_datetime64
 #pragma weak uppinalo_write_datetime64
+#pragma weak uppinalo_read_tt2000
+#pragma weak uppinalo_write_tt2000
 
-enum { MOST_NUMBER = 13, CALLS = 17 };
+enum { MOST_NUMBER = 15, CALLS = 19 };
 
 static unsigned long long turn;
 static const char *call = "";
@@ -455,6 +457,70 @@ static void write_datetime64(void) {
     }
 }
 
+/* Whether a list of leap seconds is one that a call refuses for its length. */
+static int is_bad_length(size_t n) { return n % LEAP_RECORD != 0 || n == 0 || n > LEAP_RECORD * MOST_LEAP_RECORDS; }
+
+/* Whether some date has these fields, the year apart; second 60 only as the last of a day. */
+static int is_possible_utc(uppinalo_utc_fields of) {
+    int is_clock = of.second < 60 || (of.hour == 23 && of.minute == 59 && of.second == 60);
+    return of.month - 1 < 12 && of.day - 1 < 31 && of.hour < 24 && of.minute < 60 && is_clock && of.nanosecond < 1000000000;
+}
+
+static void read_tt2000(void) {
+    uint8_t bytes[MOST_LEAP_BYTES];
+    size_t n = leap_seconds(bytes);
+    int64_t of = tt2000(bytes, n);
+    const uint8_t *list = lend(&sources, bytes, n);
+    uppinalo_utc_fields_answer answer = uppinalo_read_tt2000(list, n, of), again = uppinalo_read_tt2000(list, n, of);
+    count(answer.number);
+    require(answer.number == again.number && SAME(answer.fields, again.fields), "two answers");
+    require(is_kept_after(&sources, 0), "the list is changed");
+    require(!is_bad_length(n) || answer.number == 14, "a list of this length is not refused with 14");
+    require(answer.number == 0 || answer.number == 14 || answer.number == 15, "a TT2000 is refused with another number");
+    if (answer.number != 0) {
+        require(SAME(answer.fields, ((uppinalo_utc_fields){0})), "a refusal with fields");
+        return;
+    }
+    int is_in_years = answer.fields.year >= 1972 && answer.fields.year <= 2292;
+    require(is_in_years && is_possible_utc(answer.fields), "fields that no TT2000 has");
+    if (uppinalo_write_tt2000) {
+        uppinalo_tt2000_answer back = uppinalo_write_tt2000(list, n, answer.fields);
+        require(back.number == 0 && back.tt2000 == of, "the fields are written as another number");
+    }
+}
+
+/* Fields that a number reads as, or any. */
+static uppinalo_utc_fields fields_of_tt2000(const uint8_t *list, size_t n) {
+    if (uppinalo_read_tt2000 && below(3) == 0) {
+        uppinalo_utc_fields_answer read = uppinalo_read_tt2000(list, n, tt2000(list, n));
+        if (read.number == 0)
+            return read.fields;
+    }
+    return utc_fields();
+}
+
+static void write_tt2000(void) {
+    uint8_t bytes[MOST_LEAP_BYTES];
+    size_t n = leap_seconds(bytes);
+    uppinalo_utc_fields of = fields_of_tt2000(bytes, n);
+    const uint8_t *list = lend(&sources, bytes, n);
+    uppinalo_tt2000_answer answer = uppinalo_write_tt2000(list, n, of), again = uppinalo_write_tt2000(list, n, of);
+    uint32_t given = answer.number;
+    count(given);
+    require(given == again.number && answer.tt2000 == again.tt2000, "two answers");
+    require(is_kept_after(&sources, 0), "the list is changed");
+    require(!is_bad_length(n) || given == 14, "a list of this length is not refused with 14");
+    require(given == 0 || given == 4 || given == 5 || given == 12 || given >= 14, "a time is refused with another number");
+    require(given == 0 || answer.tt2000 == 0, "a refusal with a number");
+    require(given == 14 || given == 4 || is_possible_utc(of), "fields that no date has are not refused with 4");
+    require(given != 4 || !is_possible_utc(of) || of.second == 60, "4 where every field is possible");
+    require((given != 15 && given != 5) || (given == 15) == (of.year < 1972), "15 from 1972 on, or 5 before it");
+    if (uppinalo_read_tt2000 && given == 0) {
+        uppinalo_utc_fields_answer back = uppinalo_read_tt2000(list, n, answer.tt2000);
+        require(back.number == 0 && SAME(back.fields, of), "the number reads as other fields");
+    }
+}
+
 typedef void (*any_call)(void);
 
 /* A call's name, its round, and the call itself, null where the archive does not have it. Its place is its row of `answered`. */
@@ -476,6 +542,8 @@ static const struct { const char *name; void (*round)(void); any_call exported; 
     {"read_doubles", read_doubles, (any_call)uppinalo_read_doubles},
     {"read_datetime64", read_datetime64, (any_call)uppinalo_read_datetime64},
     {"write_datetime64", write_datetime64, (any_call)uppinalo_write_datetime64},
+    {"read_tt2000", read_tt2000, (any_call)uppinalo_read_tt2000},
+    {"write_tt2000", write_tt2000, (any_call)uppinalo_write_tt2000},
 };
 _Static_assert(sizeof ROUNDS / sizeof *ROUNDS == CALLS, "a row of `answered` for each call");
 

@@ -7,6 +7,7 @@ pub mod listing;
 pub mod offsets;
 pub mod runs;
 pub mod texts;
+pub mod tt2000;
 
 use answers::Axis;
 use samples::{Random, instants};

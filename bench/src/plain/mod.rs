@@ -14,6 +14,7 @@ pub mod listing;
 pub mod period;
 pub mod runs;
 pub mod scanner;
+pub mod tt2000;
 pub mod units;
 pub mod wholes;
 pub mod writing;

@@ -4,7 +4,7 @@ use mathlib.Core.Bool.{Bool, true, false, not, _&&_, _||_}
 use Prim.Native.Nat.{ℕ, zero, suc, _+_, _-_, _%_, _<_, _≤_}
 use native.Mathlib.Omega.{arith}
 use lib.Dec.{leb, ltb, eqb}
-use lib.IntN.{ℤ, pos, negsuc}
+use lib.IntN.{ℤ, pos, negsuc, subℕ}
 use lib.Signed.{ltZ}
 use borrow.Author.Tests.{le-leb, lt-leb, leb-true, leb-false, ne-eqb, lt-ltb, le-ltb, ltb-true, ltb-false}
 use Rattle.signed.proofs.Tests.{test-is, zero-test}
@@ -84,22 +84,24 @@ year-in false y = by-year (λ (w : ℤ). inYears w ≡ (leb 2 y && leb y 19999))
         let p : leb (y - 10000) 9999 ≡ leb y 19999 = test-is _ _ (λ e. le-leb y 19999 (omega (arith, leb-true (y - 10000) 9999 e))) (λ e. lt-leb y 19999 (omega (arith, leb-false (y - 10000) 9999 e))) in
         λ i. sym (le-leb 2 y (omega arith)) i && p i
 
--- ---- leap years by their count from -10000
+-- ---- leap years by their remainder by 400
 
-divides-at : (k y : ℕ) → (y < 10000 → eqb (suc (10000 - suc y) % k) 0 ≡ eqb (y % k) 0) → (10000 ≤ y → eqb ((y - 10000) % k) 0 ≡ eqb (y % k) 0) → divides k (yearAt true y) ≡ eqb (y % k) 0
-divides-at k y f g = by-sign (λ (z : ℤ). divides k z ≡ eqb (y % k) 0) y 10000 f g
+-- the year n - b, which differs from y by a multiple of 400
+module _ (n b y : ℕ) (h : n % 400 ≡ (y + b) % 400) where
+  divides-at : (k : ℕ) → (n < b → eqb (suc (b - suc n) % k) 0 ≡ eqb (y % k) 0) → (b ≤ n → eqb ((n - b) % k) 0 ≡ eqb (y % k) 0) → divides k (subℕ n b) ≡ eqb (y % k) 0
+  divides-at k f g = by-sign (λ (z : ℤ). divides k z ≡ eqb (y % k) 0) n b f g
 
-div-4 : (y : ℕ) → divides 4 (yearAt true y) ≡ eqb (y % 4) 0
-div-4 y = divides-at 4 y (λ h. zero-test (suc (10000 - suc y) % 4) (y % 4) (λ e. omega arith) (λ e. omega arith)) (λ h. zero-test ((y - 10000) % 4) (y % 4) (λ e. omega arith) (λ e. omega arith))
+  div-4 : divides 4 (subℕ n b) ≡ eqb (y % 4) 0
+  div-4 = divides-at 4 (λ l. zero-test (suc (b - suc n) % 4) (y % 4) (λ e. omega arith) (λ e. omega arith)) (λ l. zero-test ((n - b) % 4) (y % 4) (λ e. omega arith) (λ e. omega arith))
 
-div-100 : (y : ℕ) → divides 100 (yearAt true y) ≡ eqb (y % 100) 0
-div-100 y = divides-at 100 y (λ h. zero-test (suc (10000 - suc y) % 100) (y % 100) (λ e. omega arith) (λ e. omega arith)) (λ h. zero-test ((y - 10000) % 100) (y % 100) (λ e. omega arith) (λ e. omega arith))
+  div-100 : divides 100 (subℕ n b) ≡ eqb (y % 100) 0
+  div-100 = divides-at 100 (λ l. zero-test (suc (b - suc n) % 100) (y % 100) (λ e. omega arith) (λ e. omega arith)) (λ l. zero-test ((n - b) % 100) (y % 100) (λ e. omega arith) (λ e. omega arith))
 
-div-400 : (y : ℕ) → divides 400 (yearAt true y) ≡ eqb (y % 400) 0
-div-400 y = divides-at 400 y (λ h. zero-test (suc (10000 - suc y) % 400) (y % 400) (λ e. omega arith) (λ e. omega arith)) (λ h. zero-test ((y - 10000) % 400) (y % 400) (λ e. omega arith) (λ e. omega arith))
+  div-400 : divides 400 (subℕ n b) ≡ eqb (y % 400) 0
+  div-400 = divides-at 400 (λ l. zero-test (suc (b - suc n) % 400) (y % 400) (λ e. omega arith) (λ e. omega arith)) (λ l. zero-test ((n - b) % 400) (y % 400) (λ e. omega arith) (λ e. omega arith))
 
-gregorian-leap : (y : ℕ) → leapGregorian (yearAt true y) ≡ leap y
-gregorian-leap y = λ i. (div-4 y i && not (div-100 y i)) || div-400 y i
+  pub gregorian-leap : leapGregorian (subℕ n b) ≡ leap y
+  gregorian-leap = λ i. (div-4 i && not (div-100 i)) || div-400 i
 
 -- a year's count is its name in the calendar that has a year 0
 counted-at : (z : Bool) (y : ℕ) → counted z (yearAt z y) ≡ yearAt true y
@@ -111,8 +113,8 @@ counted-at false y =
 
 kinds-by : (r : Rule) (y : ℕ) → kindBy r (yearAt true y) ≡ kindAt r y
 unfolding kindAt
-kinds-by Rule.Gregorian y = ap ofLeap (gregorian-leap y)
-kinds-by Rule.Julian y = ap ofLeap (div-4 y)
+kinds-by Rule.Gregorian y = ap ofLeap (gregorian-leap y 10000 y (omega arith))
+kinds-by Rule.Julian y = ap ofLeap (div-4 y 10000 y (omega arith))
 kinds-by Rule.Common y = refl
 kinds-by Rule.Leap y = refl
 kinds-by Rule.Thirty y = refl

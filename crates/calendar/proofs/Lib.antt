@@ -17,4 +17,5 @@ pub mod Counting
 pub mod Counted
 pub mod Months
 pub mod Possible
+pub mod AnyYear
 pub mod Theorems

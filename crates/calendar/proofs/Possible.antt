@@ -7,7 +7,7 @@ use native.Mathlib.Omega.{arith}
 use lib.Dec.{leb}
 use lib.IntN.{pos}
 use borrow.Author.Tests.{leb-true}
-use Rattle.signed.proofs.Tests.{both, and-parts}
+use Rattle.signed.proofs.Tests.{to-false, both, and-parts}
 use Rattle.calendar.specs.Plain.{plain, hasDay, kind, monthDays}
 use Rattle.calendar.specs.Calendar.{CalendarRow, date, rowOf, earlyPart, exists, droppedBy, dropped}
 use Rattle.calendar.specs.Order.{earlier}
@@ -65,6 +65,10 @@ dropped-only Julian x h = absurd (none-between x (between (rowOf Julian) x h))
 dropped-only NoLeap x h = absurd (none-between x (between (rowOf NoLeap) x h))
 dropped-only AllLeap x h = absurd (none-between x (between (rowOf AllLeap) x h))
 dropped-only Day360 x h = absurd (none-between x (between (rowOf Day360) x h))
+
+pub never-dropped : (x : Date) → dropped ProlepticGregorian x ≡ false
+unfolding dropped
+never-dropped x = to-false (dropped ProlepticGregorian x) (λ h. none-between x (between (rowOf ProlepticGregorian) x h))
 
 pub dropped-all : (x : Date) → InMonth (pos 1582) 10 4 15 x → dropped Standard x ≡ true
 unfolding dropped droppedBy monthDays kind

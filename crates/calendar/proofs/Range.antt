@@ -33,7 +33,7 @@ year-lt r n y h =
       | no g ↦ omega arith
     ]
 
-year-ge : (r : Rule) (n y : ℕ) → yearStart r y ≤ n → y ≤ at r n .y
+pub year-ge : (r : Rule) (n y : ℕ) → yearStart r y ≤ n → y ≤ at r n .y
 year-ge r n y h =
     elim (decLe y (at r n .y)) [
       | yes g ↦ g

@@ -9,6 +9,7 @@ use Rattle.signed.specs.Bias.{lift}
 use Rattle.calendar.specs.Plain.{monthDays, ofLeap, date}
 use Rattle.calendar.specs.Calendar.{CalendarRow, rowOf, hasYearZero, exists, dateOf, inYears}
 use Rattle.calendar.specs.declared.Calendar.{Calendar}
+use Rattle.calendar.specs.declared.Calendar.the-variants.{ProlepticGregorian}
 use Rattle.calendar.specs.declared.Date.{Date}
 use Rattle.calendar.specs.declared.rule.Rule.{Rule}
 use Rattle.calendar.specs.declared.rule.YearDay.{YearDay}
@@ -16,6 +17,7 @@ use Rattle.calendar.specs.declared.place.Place.{Place}
 use Rattle.calendar.specs.declared.row.CountedRow.{CountedRow}
 use Rattle.calendar.specs.declared.YearCount.{YearCount}
 use Rattle.calendar.specs.declared.FoundDay.{FoundDay}
+use Rattle.calendar.specs.declared.gregorian.DaySince.{DaySince}
 
 -- ---- years
 
@@ -118,6 +120,11 @@ Counted z y YearCount.Missing = (z ≡ false) × (y ≡ pos 0)
 abbrev pub Found : Calendar → Date → FoundDay → Type 0
 Found c x (FoundDay.Is n) = ((inYears (x .year) && exists c x) ≡ true) × (dateOf c n ≡ x)
 Found c x FoundDay.Nothing = (inYears (x .year) && exists c x) ≡ false
+
+-- the day number of a date of `proleptic_gregorian`, or that none from 0 to 2^63 - 1 has the date
+abbrev pub IsDaySince : Date → DaySince → Type 0
+IsDaySince x (DaySince.Is n) = dateOf ProlepticGregorian (pos n) ≡ x
+IsDaySince x DaySince.Nothing = (n : ℕ) → n < 2 ^ 63 → dateOf ProlepticGregorian (pos n) ≡ x → ⊥
 
 -- the tests of a date of year y by its month and day, and its place
 

@@ -10,6 +10,7 @@ ghost use Rattle.calendar.specs.Closed.{epochDay, firstYear, firstDay, e
 use refusal::Refusal;
 
 pub mod civil;
+pub mod gregorian;
 mod month;
 pub mod ordinal;
 mod place;
@@ -104,7 +105,7 @@ fn day_in_years(c: Calendar, k: u64) -> bool
 }
 
 // The place of such a day number.
-fn place_in_years(c: Calendar, k: u64) -> u64
+pub fn place_in_years(c: Calendar, k: u64) -> u64
     requires { ⌜ inYears (dateOf c (unbiased k) .year) ≡ true ⌝ }
     ensures { λ w. ⌜ PlaceOfDay c (unbiased k) w ⌝ }
 {

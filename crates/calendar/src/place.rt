@@ -58,7 +58,7 @@ pub fn place_of(r: Rule, n: u64) -> Place
 
 // The days before a place.
 pub fn days_before(r: Rule, p: Place) -> u64
-    requires { ⌜ (p .y < 2 ^ 31) × ((p .m < 12) × (p .i < 2 ^ 31)) ⌝ }
+    requires { ⌜ (p .y < 2 ^ 55) × ((p .m < 12) × (p .i < 2 ^ 31)) ⌝ }
     ensures { λ n. ⌜ n ≡ count r p ⌝ }
 {
     let k = rule::kind_of_year(r, p.y);

@@ -43,7 +43,7 @@ pub fn kind_of_year(r: Rule, y: u64) -> usize
 
 // The days before year y.
 pub fn year_start(r: Rule, y: u64) -> u64
-    requires { ⌜ y < 2 ^ 31 ⌝ }
+    requires { ⌜ y < 2 ^ 55 ⌝ }
     ensures { λ s. ⌜ s ≡ yearStart r y ⌝ }
 {
     match r {

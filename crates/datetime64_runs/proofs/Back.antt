@@ -14,7 +14,8 @@ use mir.Syntax.{w64}
 use mir.Val.{Fits, SFits, toZ, ofZ}
 use mir.ValLaws.{toZ-ofZ, ofZ-toZ, ofZ-fits, toZ-fits}
 use Rattle.datetime64_type.specs.declared.ByteOrder.{ByteOrder}
-use Rattle.datetime64_runs.specs.Records.{Bytes, IsRecord, littleEndian, littleBytes, inOrder, recordNumber, recordOf}
+use Rattle.int64_bytes.specs.LittleEndian.{littleEndian, littleBytes}
+use Rattle.datetime64_runs.specs.Records.{Bytes, IsRecord, inOrder, recordNumber, recordOf}
 use Rattle.datetime64_runs.proofs.Bytes.{record-length}
 
 -- ---- the least significant byte first

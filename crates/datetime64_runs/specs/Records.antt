@@ -1,11 +1,12 @@
 -- Records of eight bytes, each a signed 64-bit number in two's complement, in either byte order: source document 004.
 use mathlib.Core.Path.{_≡_}
 use mathlib.Core.List.{List, [], _∷_, reverse}
-use Prim.Native.Nat.{ℕ, zero, suc, _+_, _*_, _/_, _%_, _<_}
+use Prim.Native.Nat.{ℕ, zero, suc, _*_, _/_, _<_}
 use lib.IntN.{ℤ}
 use lib.ListN.{length, take, drop}
 use mir.Syntax.{w64}
 use mir.Val.{toZ, ofZ}
+use Rattle.int64_bytes.specs.LittleEndian.{littleEndian, littleBytes}
 use Rattle.run_ends.specs.Each.{Each}
 use Rattle.datetime64_type.specs.declared.ByteOrder.{ByteOrder}
 
@@ -17,16 +18,6 @@ Bytes s = Each (λ (b : ℕ). b < 256) s
 pub record IsRecord (r : List ℕ) : Type 0 where
   pub eight : length r ≡ 8
   pub bytes : Bytes r
-
--- the number of bytes that come with the least significant first
-unfoldable pub littleEndian : List ℕ → ℕ
-littleEndian [] = 0
-littleEndian (b ∷ s) = b + 256 * littleEndian s
-
--- its first k bytes
-unfoldable pub littleBytes : ℕ → ℕ → List ℕ
-littleBytes zero w = []
-littleBytes (suc k) w = w % 256 ∷ littleBytes k (w / 256)
 
 -- bytes of an order with the least significant first, and back
 abbrev pub inOrder : ByteOrder → List ℕ → List ℕ

@@ -17,6 +17,8 @@ pub enum Refusal {
     NotOpen,
     MissingDate,
     DroppedDate,
+    BadLeapSeconds,
+    Before1972,
 }
 
 // The number of a refusal; 0 is kept for success.
@@ -37,5 +39,7 @@ pub fn number(r: Refusal) -> u32
         Refusal::NotOpen => return 11,
         Refusal::MissingDate => return 12,
         Refusal::DroppedDate => return 13,
+        Refusal::BadLeapSeconds => return 14,
+        Refusal::Before1972 => return 15,
     }
 }

@@ -101,7 +101,13 @@ common x y =
     let b = suc (mag x + mag y) in
     record { least = b; left = lift x b; right = lift y b; is-left = lift-is x b (λ e. omega arith); is-right = lift-is y b (λ e. omega arith) }
 
--- ---- multiples
+-- ---- sums and multiples
+
+pub sub-plus : (a b s : ℕ) → subℕ a b +ℤ pos s ≡ subℕ (a + s) b
+sub-plus a b s =
+    by-sign (λ (z : ℤ). z +ℤ pos s ≡ subℕ (a + s) b) a b
+    (λ h. same-diff s (suc (b - suc a)) (a + s) b (omega arith))
+    (λ h. ap pos (omega arith) ∙ sym (sub-high (a + s) b (omega arith)))
 
 pub neg-plus : (m s : ℕ) → negℤ (pos m) +ℤ pos s ≡ subℕ s m
 neg-plus zero s = ap pos (omega arith) ∙ sym (sub-high s 0 (omega arith))

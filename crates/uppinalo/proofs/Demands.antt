@@ -14,6 +14,7 @@ use Rattle.uppinalo.proofs.Range.{in-years}
 use Rattle.uppinalo.proofs.Identifiers.{identifiers}
 use Rattle.uppinalo.proofs.Records as Records
 use Rattle.uppinalo.proofs.ArraysBack as Back
+use Rattle.uppinalo.proofs.UtcTimes.{bad-lists, utc-times}
 
 pub demands : Demands
 demands =
@@ -35,4 +36,6 @@ demands =
       past-reference = past-reference;
       in-years = in-years;
       arrays = record { identifiers = identifiers; reading = Records.reading; writing = Records.writing; records = Back.records; back = Back.back };
+      bad-lists = bad-lists;
+      utc-times = utc-times;
     }

@@ -7,6 +7,7 @@ pub mod NextDay
 pub mod Writings
 pub mod Derived
 pub mod WhyRefused
+pub mod UtcTimes
 pub mod InFragments
 pub mod Doubles
 pub mod Alone

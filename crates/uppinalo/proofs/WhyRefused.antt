@@ -105,7 +105,7 @@ module _ (Impossible : Type 0) (rest : Bool) (c : Calendar) (x : Date) (n : ℕ)
 
 -- a month or a day to which its test says no is one that no date has, and the other way round
 module _ (x : Date) where
-  date-told : (isPossible (x .month) (x .day) ≡ false) ↔ ImpossibleDate x
+  pub date-told : (isPossible (x .month) (x .day) ≡ false) ↔ ImpossibleDate x
   date-told = (told (isMonth (x .month)) (isMonthDay (x .day)) refl refl, back)
     where
       told : (a b : Bool) → isMonth (x .month) ≡ a → isMonthDay (x .day) ≡ b → (a && b) ≡ false → ImpossibleDate x

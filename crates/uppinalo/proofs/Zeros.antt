@@ -28,6 +28,9 @@ use Rattle.axis_text.specs.declared.AxisAnswer.{AxisAnswer}
 use Rattle.datetime64_type.specs.declared.identifier.TypeAnswer.{TypeAnswer}
 use Rattle.datetime64_runs.specs.Records.{recordCount}
 use Rattle.datetime64_runs.specs.Runs.{typeNamed, readCheck, instantsOver, readAnswer, readDestination, writeCheck, recordsOver, writeAnswer, writeRoom}
+use Rattle.tt2000.specs.Tt2000.{readTt2000, writeTt2000}
+use Rattle.tt2000.specs.declared.UtcAnswer.{UtcAnswer}
+use Rattle.tt2000.specs.declared.Tt2000Answer.{Tt2000Answer}
 use Rattle.codes.specs.Codes.{codedCalendar, codedAxis}
 use Rattle.codes.specs.declared.CodedCalendar.{CodedCalendar}
 use Rattle.codes.specs.declared.CodedAxis.{CodedAxis}
@@ -35,8 +38,9 @@ use Rattle.uppinalo.specs.Days.{ofDate, ofDay, ofFields, dateByCode, day
 use Rattle.uppinalo.specs.Offsets.{ofReading, readOn, ofOffset, writeOn}
 use Rattle.uppinalo.specs.Runs.{runOn, destinationOn}
 use Rattle.uppinalo.specs.Texts.{ofInstant, ofAxis, ofLength, lengthByCode, roomByCode}
+use Rattle.uppinalo.specs.Utc.{ofUtc, ofTt2000}
 use Rattle.uppinalo.proofs.SoFar.{end-outcome}
-use Rattle.uppinalo.specs.Demands.{DateOrZero, DayOrZero, FieldsOrZero, ReadingOrZero, OffsetOrZero, AxisOrZero, LengthOrZero, RunOrZero, ZeroBesideRefusal}
+use Rattle.uppinalo.specs.Demands.{DateOrZero, DayOrZero, FieldsOrZero, ReadingOrZero, OffsetOrZero, UtcFieldsOrZero, Tt2000OrZero, AxisOrZero, LengthOrZero, RunOrZero, ZeroBesideRefusal}
 
 of-date : (a : DateAnswer) → DateOrZero (ofDate a)
 of-date (DateAnswer.Is d) h = absurd (h refl)
@@ -57,6 +61,14 @@ of-reading (Reading.Refused r) h = (refl, refl)
 of-offset : (a : OffsetAnswer) → OffsetOrZero (ofOffset a)
 of-offset (OffsetAnswer.Is n) h = absurd (h refl)
 of-offset (OffsetAnswer.Refused r) h = refl
+
+of-utc : (a : UtcAnswer) → UtcFieldsOrZero (ofUtc a)
+of-utc (UtcAnswer.Is f) h = absurd (h refl)
+of-utc (UtcAnswer.Refused r) h = refl
+
+of-tt2000 : (a : Tt2000Answer) → Tt2000OrZero (ofTt2000 a)
+of-tt2000 (Tt2000Answer.Is t) h = absurd (h refl)
+of-tt2000 (Tt2000Answer.Refused r) h = refl
 
 of-instant : (a : InstantAnswer) → ReadingOrZero (ofInstant a)
 of-instant (InstantAnswer.Is t) h = absurd (h refl)
@@ -135,4 +147,6 @@ refusals =
       write-iso = λ calendar. length-zero (codedCalendar calendar);
       read-datetime64 = λ text. read-zero (typeNamed text);
       write-datetime64 = λ text. write-zero (typeNamed text);
+      read-tt2000 = λ s t. of-utc (readTt2000 s t);
+      write-tt2000 = λ s f. of-tt2000 (writeTt2000 s f);
     }

@@ -1,6 +1,7 @@
 -- The three demands, stated of the calls of include/uppinalo.h: of what each call promises (the definitions that have a call's name in the
 -- other files of this folder), whatever it is handed. The last record, `Demands`, has them all; proofs/Demands.antt proves it. What is
--- demanded of the calls about datetime64 arrays alone stands in Arrays.antt, and why a date is refused in RefusedDates.antt.
+-- demanded of the calls about datetime64 arrays alone stands in Arrays.antt, of those about TT2000 in UtcTimes.antt, and why a date is refused in
+-- RefusedDates.antt.
 -- An axis crosses the boundary by its codes: `axisCode x` is what a caller hands in for the axis x, and `calendarCode c` for the calendar c.
 -- `CodesOfAxes` says that these codes name it, and that no others do; `OtherCodes` what calls with codes that name nothing answer.
 use mathlib.Core.Path.{_≡_}
@@ -44,6 +45,8 @@ use Rattle.axis_text.specs.declared.AxisAnswer.{AxisAnswer}
 use Rattle.units_fragments.specs.Fragments.{afterEach, concatenation}
 use Rattle.units_fragments.specs.declared.UnitsState.{UnitsState}
 use Rattle.datetime64_runs.specs.Records.{recordCount}
+use Rattle.leap_seconds.specs.Leaps.{isGood}
+use Rattle.tt2000.specs.declared.UtcFields.{UtcFields}
 use Rattle.codes.specs.Codes.{codedCalendar, codedAxis, calendarCode, axisCode}
 use Rattle.codes.specs.declared.CodedCalendar.{CodedCalendar}
 use Rattle.codes.specs.declared.CodedAxis.{CodedAxis}
@@ -54,8 +57,10 @@ use Rattle.uppinalo.specs.Runs.{noRun, uppinaloReadWholes, uppinaloReadW
 use Rattle.uppinalo.specs.Texts.{ofInstant, ofAxis, noLength, uppinaloReadIso, uppinaloReadUnits, uppinaloWriteIso, uppinaloWriteIsoRoom}
 use Rattle.uppinalo.specs.Fragments.{uppinaloStartUnits, uppinaloAddUnits, uppinaloAddUnitsState, uppinaloEndUnits, uppinaloEndUnitsState}
 use Rattle.uppinalo.specs.Datetime64.{uppinaloReadDatetime64, uppinaloReadDatetime64Destination, uppinaloWriteDatetime64, uppinaloWriteDatetime64Records}
+use Rattle.uppinalo.specs.Utc.{uppinaloReadTt2000, uppinaloWriteTt2000}
 use Rattle.uppinalo.specs.Arrays.{Arrays}
 use Rattle.uppinalo.specs.RefusedDates.{RefusedDates}
+use Rattle.uppinalo.specs.UtcTimes.{BadLists, UtcTimes}
 use Rattle.uppinalo.specs.declared.days.UppinaloDateAnswer.{UppinaloDateAnswer}
 use Rattle.uppinalo.specs.declared.days.UppinaloDayAnswer.{UppinaloDayAnswer}
 use Rattle.uppinalo.specs.declared.days.UppinaloFieldsAnswer.{UppinaloFieldsAnswer}
@@ -63,6 +68,8 @@ use Rattle.uppinalo.specs.declared.texts.UppinaloReading.{UppinaloReadin
 use Rattle.uppinalo.specs.declared.texts.UppinaloAxisAnswer.{UppinaloAxisAnswer}
 use Rattle.uppinalo.specs.declared.texts.UppinaloLengthAnswer.{UppinaloLengthAnswer}
 use Rattle.uppinalo.specs.declared.offsets.UppinaloOffsetAnswer.{UppinaloOffsetAnswer}
+use Rattle.uppinalo.specs.declared.utc.UppinaloUtcFieldsAnswer.{UppinaloUtcFieldsAnswer}
+use Rattle.uppinalo.specs.declared.utc.UppinaloTt2000Answer.{UppinaloTt2000Answer}
 
 -- the reference of an axis lies in the years -9999 to 9999
 abbrev pub GoodReference : Axis → Type 0
@@ -118,6 +125,12 @@ ReadingOrZero a = IsRefused (a .number) → (a .instant ≡ pos 0) × (a .exact 
 abbrev pub OffsetOrZero : UppinaloOffsetAnswer → Type 0
 OffsetOrZero a = IsRefused (a .number) → a .offset ≡ pos 0
 
+abbrev pub UtcFieldsOrZero : UppinaloUtcFieldsAnswer → Type 0
+UtcFieldsOrZero a = IsRefused (a .number) → a .fields ≡ record { year = pos 0; month = 0; day = 0; hour = 0; minute = 0; second = 0; nanosecond = 0 }
+
+abbrev pub Tt2000OrZero : UppinaloTt2000Answer → Type 0
+Tt2000OrZero a = IsRefused (a .number) → a .tt2000 ≡ pos 0
+
 -- 0, 0, 0 are the codes of `standard`, seconds and fixed mode
 abbrev pub AxisOrZero : UppinaloAxisAnswer → Type 0
 AxisOrZero a = IsRefused (a .number) → a .axis ≡ record { calendar = 0; period = 0; mode = 0; reference = pos 0 }
@@ -146,6 +159,8 @@ pub record ZeroBesideRefusal : Type 0 where
   pub write-iso : (calendar : ℕ) (t : ℤ) (room : List ℕ) → LengthOrZero (uppinaloWriteIso calendar t room) room (uppinaloWriteIsoRoom calendar t room)
   pub read-datetime64 : (text s : List ℕ) (ds : List ℤ) → RunOrZero (uppinaloReadDatetime64 text s ds) ds (uppinaloReadDatetime64Destination text s ds)
   pub write-datetime64 : (text : List ℕ) (xs : List ℤ) (room : List ℕ) → RunOrZero (uppinaloWriteDatetime64 text xs room) room (uppinaloWriteDatetime64Records text xs room)
+  pub read-tt2000 : (s : List ℕ) (t : ℤ) → UtcFieldsOrZero (uppinaloReadTt2000 s t)
+  pub write-tt2000 : (s : List ℕ) (f : UtcFields) → Tt2000OrZero (uppinaloWriteTt2000 s f)
 
 -- ---- demand 2: dates by the next-day rule
 
@@ -326,3 +341,5 @@ pub record Demands : Type 0 where
   pub past-reference : (x : Axis) → inRange (x .calendar) (x .reference) ≡ false → PastReference x
   pub in-years : GivenInYears
   pub arrays : Arrays
+  pub bad-lists : (s : List ℕ) → BadLists s
+  pub utc-times : (s : List ℕ) → isGood s ≡ true → UtcTimes s

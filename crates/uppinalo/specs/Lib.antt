@@ -2,8 +2,10 @@ pub mod Days
 pub mod Texts
 pub mod Fragments
 pub mod Datetime64
+pub mod Utc
 pub mod Offsets
 pub mod Runs
 pub mod Arrays
 pub mod RefusedDates
+pub mod UtcTimes
 pub mod Demands

@@ -6,3 +6,4 @@ pub mod fragments;
 pub mod offset_runs;
 pub mod offsets;
 pub mod texts;
+pub mod utc;

@@ -8,7 +8,7 @@ use lib.Dec.{ltb}
 use borrow.Author.Tests.{ltb-true}
 use Rattle.signed.proofs.Tests.{and-parts}
 use Rattle.signed.specs.Bias.{unbiased}
-use Rattle.signed.proofs.Differences.{by-sign, sub-low, sub-high, same-diff}
+use Rattle.signed.proofs.Differences.{by-sign, sub-low, same-diff, sub-plus}
 use Rattle.calendar.specs.declared.Calendar.{Calendar}
 use Rattle.instant.specs.Instant.{inRange, instantWith}
 use Rattle.instant.specs.declared.Fields.{Fields}
@@ -20,12 +20,6 @@ use Rattle.signed.specs.Sign.{withSign}
 use Rattle.written_instant.specs.Instants.{isZone, zoneLength, ranged, lessZone}
 
 -- ---- sums and differences
-
-sub-plus : (a b s : ℕ) → subℕ a b +ℤ pos s ≡ subℕ (a + s) b
-sub-plus a b s =
-    by-sign (λ (z : ℤ). z +ℤ pos s ≡ subℕ (a + s) b) a b
-    (λ h. same-diff s (suc (b - suc a)) (a + s) b (omega arith))
-    (λ h. ap pos (omega arith) ∙ sym (sub-high (a + s) b (omega arith)))
 
 sub-minus : (a b s : ℕ) → subℕ a b -ℤ pos s ≡ subℕ a (b + s)
 sub-minus a b zero = +ℤ-idr (subℕ a b) ∙ ap (subℕ a) (omega arith)

@@ -1,5 +1,7 @@
 //! The structs of `include/uppinalo.h`, field for field, for all Rust programs here.
 
+use std::fmt::{Display, Formatter, Result};
+
 #[repr(C)]
 #[derive(Clone, Copy, PartialEq, Eq, Debug, Default)]
 pub struct Axis {
@@ -27,6 +29,27 @@ pub struct Fields {
     pub minute: u32,
     pub second: u32,
     pub microsecond: u32,
+}
+
+#[repr(C)]
+#[derive(Clone, Copy, PartialEq, Eq, Debug, Default)]
+pub struct UtcFields {
+    pub year: i64,
+    pub month: u32,
+    pub day: u32,
+    pub hour: u32,
+    pub minute: u32,
+    pub second: u32,
+    pub nanosecond: u32,
+}
+
+/// The ISO text, with nine decimals.
+impl Display for UtcFields {
+    fn fmt(&self, out: &mut Formatter) -> Result {
+        let UtcFields { year, month, day, hour, minute, second, nanosecond } = self;
+        let (sign, year) = (if *year < 0 { "-" } else { "" }, year.unsigned_abs());
+        write!(out, "{sign}{year:04}-{month:02}-{day:02}T{hour:02}:{minute:02}:{second:02}.{nanosecond:09}Z")
+    }
 }
 
 /// A units text so far: the number of its bytes, 129 where they do not fit, and 1 after the end.
@@ -102,4 +125,18 @@ pub struct RunAnswer {
     pub place: usize,
     pub length: usize,
     pub rounded: usize,
+}
+
+#[repr(C)]
+#[derive(Clone, Copy, PartialEq, Eq, Debug, Default)]
+pub struct UtcFieldsAnswer {
+    pub number: u32,
+    pub fields: UtcFields,
+}
+
+#[repr(C)]
+#[derive(Clone, Copy, PartialEq, Eq, Debug, Default)]
+pub struct Tt2000Answer {
+    pub number: u32,
+    pub tt2000: i64,
 }

@@ -12,6 +12,12 @@ fn arguments() {
     assert_eq!(size_of::<Fields>(), 32);
     assert_eq!([offset_of!(Fields, month), offset_of!(Fields, day), offset_of!(Fields, hour)], [8, 12, 16]);
     assert_eq!([offset_of!(Fields, minute), offset_of!(Fields, second), offset_of!(Fields, microsecond)], [20, 24, 28]);
+    assert_eq!(size_of::<UtcFields>(), 32);
+    assert_eq!([offset_of!(UtcFields, month), offset_of!(UtcFields, day), offset_of!(UtcFields, hour)], [8, 12, 16]);
+    assert_eq!(
+        [offset_of!(UtcFields, minute), offset_of!(UtcFields, second), offset_of!(UtcFields, nanosecond)],
+        [20, 24, 28]
+    );
     assert_eq!(size_of::<UnitsState>(), 136);
     assert_eq!([offset_of!(UnitsState, ended), offset_of!(UnitsState, bytes)], [4, 8]);
 }
@@ -30,4 +36,13 @@ fn results() {
         [offset_of!(RunAnswer, place), offset_of!(RunAnswer, length), offset_of!(RunAnswer, rounded)],
         [8, 16, 24]
     );
+    assert_eq!((size_of::<UtcFieldsAnswer>(), offset_of!(UtcFieldsAnswer, fields)), (40, 8));
+    assert_eq!((size_of::<Tt2000Answer>(), offset_of!(Tt2000Answer, tt2000)), (16, 8));
+}
+
+#[test]
+fn utc_fields_shown() {
+    let fields = UtcFields { year: 2016, month: 12, day: 31, hour: 23, minute: 59, second: 60, nanosecond: 7 };
+    assert_eq!(fields.to_string(), "2016-12-31T23:59:60.000000007Z");
+    assert_eq!(UtcFields { year: -45, ..fields }.to_string(), "-0045-12-31T23:59:60.000000007Z");
 }

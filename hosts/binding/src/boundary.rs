@@ -77,3 +77,11 @@ pub fn write_datetime64(identifier: &[u8], instants: &[i64], records: &mut [u8])
     let (to, room) = (records.as_mut_ptr(), records.len());
     unsafe { raw::uppinalo_write_datetime64(name, name_len, instants.as_ptr(), instants.len(), to, room) }
 }
+
+pub fn read_tt2000(leap_seconds: &[u8], tt2000: i64) -> UtcFieldsAnswer {
+    unsafe { raw::uppinalo_read_tt2000(leap_seconds.as_ptr(), leap_seconds.len(), tt2000) }
+}
+
+pub fn write_tt2000(leap_seconds: &[u8], fields: UtcFields) -> Tt2000Answer {
+    unsafe { raw::uppinalo_write_tt2000(leap_seconds.as_ptr(), leap_seconds.len(), fields) }
+}

@@ -11,13 +11,15 @@ mod axis;
 pub mod boundary;
 mod calendar;
 pub mod datetime64;
+mod leap_seconds;
 pub mod raw;
 mod refusal;
 mod units_reader;
 
-pub use answers::{Date, Fields};
+pub use answers::{Date, Fields, UtcFields};
 pub use axis::{Axis, Mode, Offset, Period, Reading, Run};
 pub use calendar::{Calendar, read_iso};
+pub use leap_seconds::LeapSeconds;
 pub use refusal::{Refusal, RefusedRun};
 pub use units_reader::UnitsReader;
 

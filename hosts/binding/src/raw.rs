@@ -37,4 +37,6 @@ calls! {
         destination: *mut i64, room: usize) -> RunAnswer;
     "write_datetime64" uppinalo_write_datetime64(identifier: *const u8, identifier_len: usize, instants: *const i64, n: usize,
         records: *mut u8, records_room: usize) -> RunAnswer;
+    "read_tt2000" uppinalo_read_tt2000(leap_seconds: *const u8, leap_seconds_len: usize, tt2000: i64) -> UtcFieldsAnswer;
+    "write_tt2000" uppinalo_write_tt2000(leap_seconds: *const u8, leap_seconds_len: usize, fields: UtcFields) -> Tt2000Answer;
 }

@@ -18,6 +18,8 @@ pub enum Refusal {
     NotOpen,
     MissingDate,
     DroppedDate,
+    BadLeapSeconds,
+    Before1972,
     /// A number for which this crate has no name.
     Other(u32),
 }
@@ -38,6 +40,8 @@ impl Refusal {
             11 => Refusal::NotOpen,
             12 => Refusal::MissingDate,
             13 => Refusal::DroppedDate,
+            14 => Refusal::BadLeapSeconds,
+            15 => Refusal::Before1972,
             _ => Refusal::Other(number),
         }
     }
@@ -57,6 +61,8 @@ impl Refusal {
             Refusal::NotOpen => 11,
             Refusal::MissingDate => 12,
             Refusal::DroppedDate => 13,
+            Refusal::BadLeapSeconds => 14,
+            Refusal::Before1972 => 15,
             Refusal::Other(number) => number,
         }
     }
@@ -69,9 +75,9 @@ impl Refusal {
                 "the text is not of the form that its grammar gives, or a code names no period or mode"
             }
             Refusal::ImpossibleField => {
-                "a field is one that no date has, such as month 13, day 32, hour 24 or zone hour 24: look for a typing error"
+                "a field is one that no date has, such as month 13, day 32, hour 24 or zone hour 24, or second 60 where no leap second is: look for a typing error"
             }
-            Refusal::OutOfRange => "the year or the instant lies past -9999 to 9999",
+            Refusal::OutOfRange => "the year or the instant lies past -9999 to 9999, or a TT2000 past 64 bits",
             Refusal::Inexact => {
                 "no whole offset or number of the unit reads as the instant; the double is not whole in calendar mode; the number is no whole count of microseconds"
             }
@@ -84,6 +90,10 @@ impl Refusal {
                 "the calendar has no such year or day, such as year 0 or 30 February: look whether it is the calendar that was meant"
             }
             Refusal::DroppedDate => "the calendar left this day out: in `standard` 1582-10-15 comes after 1582-10-04",
+            Refusal::BadLeapSeconds => {
+                "the list of leap seconds is not good: 1 to 64 records of 16 bytes, the first day 730 with count 10, then later days, each count one more"
+            }
+            Refusal::Before1972 => "the time lies before 1972-01-01, where the list of leap seconds begins",
             Refusal::Other(_) => "a refusal that this crate has no words for",
         }
     }
@@ -102,8 +112,8 @@ impl Display for Refusal {
 
 impl Error for Refusal {}
 
-/// Why a run is refused, and the place, from 0, of the first of its offsets, records or instants that is. The place is 0 where none of
-/// them is at fault.
+/// Why a run is refused, and the place, from 0, of the first of its offsets, records, instants, TT2000 or fields that is. The place is 0
+/// where none of them is at fault.
 #[derive(Clone, Copy, PartialEq, Eq, Debug)]
 pub struct RefusedRun {
     pub refusal: Refusal,

@@ -36,6 +36,8 @@ fn words() {
         NotOpen,
         MissingDate,
         DroppedDate,
+        BadLeapSeconds,
+        Before1972,
     ] {
         let row = format!("\n| {} | {} |\n", refusal.number(), refusal.words());
         assert!(readme.contains(&row), "{refusal}");
@@ -261,4 +263,83 @@ fn datetime64_written() {
     assert_eq!(datetime64::write("<M8[h]", &[0; 3], &mut room), refused(Refusal::NoRoom, 0));
     assert_eq!(datetime64::write("<M8[2h]", &[0], &mut room), refused(Refusal::IllFormed, 0));
     assert_eq!(room[0], 12);
+}
+
+/// The list of source document 003, which ends with 2009, and that of today.
+fn leap_seconds(records: usize) -> LeapSeconds {
+    LeapSeconds::new(&include_bytes!("../../../data/leap_seconds_2017.bin")[..16 * records]).unwrap()
+}
+
+const LEAP_SECOND: UtcFields =
+    UtcFields { year: 2016, month: 12, day: 31, hour: 23, minute: 59, second: 60, nanosecond: 0 };
+
+#[test]
+fn tt2000_read() {
+    if !are_exported(&["read_tt2000"]) {
+        return;
+    }
+    let today = leap_seconds(28);
+    let shown = |list: &LeapSeconds, tt2000| list.read(tt2000).map(|fields| fields.to_string());
+    for list in [&today, &leap_seconds(25)] {
+        assert_eq!(shown(list, 0).as_deref(), Ok("2000-01-01T11:58:55.816000000Z"));
+        assert_eq!(shown(list, 284_083_266_184_000_000).as_deref(), Ok("2009-01-01T12:00:00.000000000Z"));
+        assert_eq!(list.read(i64::MIN), Err(Refusal::Before1972));
+    }
+    // source document 003 says 08.670775807, for which its list would have to count 36 and not 34
+    assert_eq!(shown(&leap_seconds(25), i64::MAX).as_deref(), Ok("2292-04-11T11:46:10.670775807Z"));
+    assert_eq!(shown(&leap_seconds(27), i64::MAX).as_deref(), Ok("2292-04-11T11:46:08.670775807Z"));
+    assert_eq!(today.read(536_500_868_184_000_000), Ok(LEAP_SECOND));
+    let later =
+        [184_000_000, 1_183_999_999, 1_184_000_000].map(|by| shown(&today, 536_500_868_000_000_000 + by).unwrap());
+    assert_eq!(
+        later,
+        ["2016-12-31T23:59:60.000000000Z", "2016-12-31T23:59:60.999999999Z", "2017-01-01T00:00:00.000000000Z"]
+    );
+}
+
+#[test]
+fn tt2000_written() {
+    if !are_exported(&["read_tt2000", "write_tt2000"]) {
+        return;
+    }
+    let today = leap_seconds(28);
+    assert_eq!(today.write(LEAP_SECOND), Ok(536_500_868_184_000_000));
+    for (fields, refusal) in [
+        (UtcFields { day: 30, ..LEAP_SECOND }, Refusal::ImpossibleField),
+        (UtcFields { hour: 24, ..LEAP_SECOND }, Refusal::ImpossibleField),
+        (UtcFields { month: 2, day: 30, second: 59, ..LEAP_SECOND }, Refusal::MissingDate),
+        (UtcFields { year: 1971, second: 59, ..LEAP_SECOND }, Refusal::Before1972),
+        (UtcFields { year: i64::MAX, second: 59, ..LEAP_SECOND }, Refusal::OutOfRange),
+    ] {
+        assert_eq!(today.write(fields), Err(refusal), "{fields}");
+    }
+    assert_eq!(leap_seconds(27).write(LEAP_SECOND), Err(Refusal::ImpossibleField));
+}
+
+#[test]
+fn tt2000_runs() {
+    if !are_exported(&["read_tt2000", "write_tt2000"]) {
+        return;
+    }
+    let today = leap_seconds(28);
+    let numbers = [0, 536_500_868_184_000_000, i64::MAX];
+    let fields = today.read_run(&numbers).unwrap();
+    assert_eq!(fields[1], LEAP_SECOND);
+    assert_eq!(today.write_run(&fields).as_deref(), Ok(&numbers[..]));
+    assert_eq!((today.read_run(&[]), today.write_run(&[])), (Ok(vec![]), Ok(vec![])));
+    let refused = |refusal, place| Err(RefusedRun { refusal, place });
+    assert_eq!(today.read_run(&[0, 0, i64::MIN, i64::MIN]).map(|_| ()), refused(Refusal::Before1972, 2));
+    let late = UtcFields { year: 2017, ..LEAP_SECOND };
+    assert_eq!(today.write_run(&[LEAP_SECOND, late]).map(|_| ()), refused(Refusal::ImpossibleField, 1));
+}
+
+#[test]
+fn bad_leap_seconds() {
+    if !are_exported(&["read_tt2000"]) {
+        return;
+    }
+    let records = leap_seconds(28).records().to_vec();
+    for bad in [&[], &records[..15], &records[16..], &records[1..], &records.repeat(2)] {
+        assert_eq!(LeapSeconds::new(bad), Err(Refusal::BadLeapSeconds));
+    }
 }

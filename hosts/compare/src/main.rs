@@ -17,6 +17,7 @@ mod run;
 mod runs;
 mod states;
 mod texts;
+mod tt2000;
 mod writing;
 
 use run::{Run, Scale};
@@ -24,7 +25,7 @@ use std::process::ExitCode;
 
 type Comparison = (&'static str, fn(&mut Run));
 
-const COMPARISONS: [Comparison; 18] = [
+const COMPARISONS: [Comparison; 20] = [
     ("date_of_day", calendars::date_of_day),
     ("day_of_date", calendars::day_of_date),
     ("fields_of", calendars::fields_of),
@@ -42,6 +43,8 @@ const COMPARISONS: [Comparison; 18] = [
     ("read_doubles", runs::read_doubles),
     ("read_datetime64", datetime64::read_datetime64),
     ("write_datetime64", datetime64::write_datetime64),
+    ("read_tt2000", tt2000::read_tt2000),
+    ("write_tt2000", tt2000::write_tt2000),
     ("listing", listing::listing),
 ];
 

@@ -13,7 +13,7 @@ pub enum Scale {
 }
 
 /// The greatest number that a call answers.
-const MOST: usize = 13;
+const MOST: usize = 15;
 /// How often each number was answered.
 type Counts = [u64; MOST + 1];
 

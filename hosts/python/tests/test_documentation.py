@@ -15,9 +15,9 @@ class Examples(unittest.TestCase):
         self.assertEqual((result.failed, result.attempted), (0, count))
 
     @needs("read_units", "read_whole", "read_double", "write_instant", "write_iso", "fields_of")
-    @needs("start_units", "add_units", "end_units")
+    @needs("start_units", "add_units", "end_units", "read_tt2000")
     def test_examples(self):
-        self.examples(uppinalo, 12)
+        self.examples(uppinalo, 14)
 
     @needs("read_datetime64", "write_datetime64")
     def test_examples_of_datetime64(self):

@@ -14,6 +14,7 @@ STRUCTS = {
     "axis": _library.AxisCodes,
     "date": _library.DateNumbers,
     "fields": _library.FieldNumbers,
+    "utc_fields": _library.UtcFieldNumbers,
     "units_state": _library.UnitsState,
     "axis_answer": _library.AxisAnswer,
     "reading": _library.ReadingAnswer,
@@ -23,6 +24,8 @@ STRUCTS = {
     "day_answer": _library.DayAnswer,
     "length_answer": _library.LengthAnswer,
     "run_answer": _library.RunAnswer,
+    "utc_fields_answer": _library.UtcFieldsAnswer,
+    "tt2000_answer": _library.Tt2000Answer,
 }
 KINDS = {
     "uint8_t": ctypes.c_uint8,

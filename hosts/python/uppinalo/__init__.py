@@ -1,4 +1,4 @@
-"""The time axes of gridded data: units texts, calendars and offsets to dates, and the reverse.
+"""The time axes of gridded data: units texts, calendars and offsets to dates, and the reverse; datetime64 arrays and TT2000 too.
 
     >>> from uppinalo import Axis
     >>> axis = Axis("days since 1850-01-01", calendar="noleap")
@@ -19,6 +19,7 @@ from ._axis import Axis
 from ._codes import Calendar, Mode, Period
 from ._datetime64 import read_datetime64, write_datetime64
 from ._instants import Date, Fields, Reading, calendar_of, date_of_day, day_of_date, fields_of, read_iso, write_iso
+from ._leap_seconds import LeapSeconds, UtcFields
 from ._refused import WORDS, Refused
 from ._runs import Run
 from ._units_reader import UnitsReader
@@ -28,12 +29,14 @@ __all__ = [
     "Calendar",
     "Date",
     "Fields",
+    "LeapSeconds",
     "Mode",
     "Period",
     "Reading",
     "Refused",
     "Run",
     "UnitsReader",
+    "UtcFields",
     "WORDS",
     "calendar_of",
     "date_of_day",
@@ -45,5 +48,6 @@ __all__ = [
     "write_iso",
 ]
 
-for _name in ("Axis", "Calendar", "Date", "Fields", "Mode", "Period", "Reading", "Refused", "Run", "UnitsReader"):
-    globals()[_name].__module__ = __name__
+for _name in __all__:
+    if isinstance(globals()[_name], type):
+        globals()[_name].__module__ = __name__

@@ -95,3 +95,16 @@ def contiguous(data: Any, wrong: str) -> Any:
     except TypeError:
         raise TypeError(f"{wrong}, not {type(data).__name__}") from None
     return data if view.c_contiguous else view.tobytes()
+
+
+def lent_bytes(data: Any, what: str) -> Lent:
+    """Anything bytes-like; bytes with gaps between them or in another order are copied first."""
+    wrong = f"{what} must be bytes"
+    try:
+        lent = Lent(contiguous(data, wrong))
+    except (ValueError, BufferError) as error:
+        raise TypeError(f"{wrong}: {error}") from None
+    if not lent.is_bytes:
+        with lent:
+            raise TypeError(f"{wrong}, not a {type(data).__name__} of other elements")
+    return lent

@@ -27,6 +27,12 @@ class FieldNumbers(Structure):
     ]
 
 
+class UtcFieldNumbers(Structure):
+    _fields_ = [("year", c_int64)] + [
+        (name, c_uint32) for name in ("month", "day", "hour", "minute", "second", "nanosecond")
+    ]
+
+
 class UnitsState(Structure):
     _fields_ = [("count", c_uint32), ("ended", c_uint32), ("bytes", c_uint8 * 128)]
 
@@ -63,6 +69,14 @@ class RunAnswer(Structure):
     _fields_ = [("number", c_uint32), ("place", c_size_t), ("length", c_size_t), ("rounded", c_size_t)]
 
 
+class UtcFieldsAnswer(Structure):
+    _fields_ = [("number", c_uint32), ("fields", UtcFieldNumbers)]
+
+
+class Tt2000Answer(Structure):
+    _fields_ = [("number", c_uint32), ("tt2000", c_int64)]
+
+
 _TEXTS = [c_char_p, c_size_t, c_char_p, c_size_t]
 _RUN = [AxisCodes, c_void_p, c_size_t, c_void_p, c_size_t]
 _RECORDS = [c_char_p, c_size_t, c_void_p, c_size_t, c_void_p, c_size_t]
@@ -86,6 +100,8 @@ CALLS: dict[str, tuple[Any, list[Any]]] = {
     "read_doubles": (RunAnswer, _RUN),
     "read_datetime64": (RunAnswer, _RECORDS),
     "write_datetime64": (RunAnswer, _RECORDS),
+    "read_tt2000": (UtcFieldsAnswer, [c_char_p, c_size_t, c_int64]),
+    "write_tt2000": (Tt2000Answer, [c_char_p, c_size_t, UtcFieldNumbers]),
 }
 
 

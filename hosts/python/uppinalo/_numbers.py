@@ -1,7 +1,8 @@
 """Python's numbers and texts as those of the C boundary. Whatever is no number or text of the kind asked for is a TypeError.
 
 Python's ints have no bounds. One past the bounds of its place is handed on as the greatest or least number of that place, which
-the library refuses for the same reason: no instant, day or offset as far off is in range, and no date has such a field.
+the library refuses for the same reason: no instant, day or offset as far off is in range, and no date has such a field. This
+does not hold for a TT2000 and the year of UTC fields, for which every number of 64 bits is good.
 """
 
 from __future__ import annotations
@@ -21,7 +22,8 @@ def is_whole(value: object) -> bool:
     return hasattr(value, "__index__") and not isinstance(value, (bool, type)) and kind in "iu"
 
 
-def _int(value: object, what: str) -> int:
+def whole(value: object, what: str) -> int:
+    """The int itself."""
     if not is_whole(value):
         raise TypeError(f"{what} must be an int, not {type(value).__name__}")
     return operator.index(value)  # type: ignore[arg-type]
@@ -29,12 +31,12 @@ def _int(value: object, what: str) -> int:
 
 def signed(value: object, what: str) -> int:
     """The int as a signed 64-bit number."""
-    return max(LEAST, min(_int(value, what), MOST))
+    return max(LEAST, min(whole(value, what), MOST))
 
 
 def unsigned(value: object, what: str) -> int:
     """The int as an unsigned 32-bit number; one that is negative becomes the greatest."""
-    number = _int(value, what)
+    number = whole(value, what)
     return number if 0 <= number <= MOST_UNSIGNED else MOST_UNSIGNED
 
 

@@ -7,7 +7,7 @@ from typing import TYPE_CHECKING, Any, Optional, Tuple, Type
 from ._axis import Axis, parts_read
 from ._codes import Calendar
 from ._instants import CalendarOrName, name_of
-from ._lent import Lent, contiguous
+from ._lent import lent_bytes
 from ._library import UnitsState, call
 from ._numbers import encoded
 from ._refused import Refused
@@ -58,7 +58,7 @@ class UnitsReader:
     def add(self, fragment: ReadableBuffer) -> None:
         """Takes the next bytes of the text, or none, from anything bytes-like. They are read where they lie; bytes with gaps
         between them or in another order are copied first."""
-        with _lent_fragment(fragment) as lent:
+        with lent_bytes(fragment, "a fragment") as lent:
             number = call["add_units"](self._state, lent.start, lent.size)
         if number:
             raise Refused(number, f"a fragment after {self._units()}")
@@ -106,15 +106,3 @@ class UnitsReader:
         kept = bytes(self._state.bytes)
         more = " and more" if self._state.count > len(kept) else ""
         return f"units {kept[: self._state.count]!r}{more}"
-
-
-def _lent_fragment(fragment: Any) -> Lent:
-    wrong = "a fragment must be bytes"
-    try:
-        lent = Lent(contiguous(fragment, wrong))
-    except (ValueError, BufferError) as error:
-        raise TypeError(f"{wrong}: {error}") from None
-    if not lent.is_bytes:
-        with lent:
-            raise TypeError(f"{wrong}, not a {type(fragment).__name__} of other elements")
-    return lent

@@ -8,9 +8,11 @@ pub mod doubles;
 pub mod fragments;
 pub mod identifiers;
 pub mod instants;
+pub mod leap_seconds;
 pub mod lines;
 pub mod random;
 pub mod texts;
+pub mod tt2000;
 pub mod wholes;
 
 pub use random::Random;

@@ -8,7 +8,7 @@ use crate::fields::{Fields, UTC, tested_day};
 use crate::reading::Reading;
 use crate::refusal::Refusal;
 use crate::runs::Refused;
-use crate::{datetime64, fragments, instant, iso, reading, runs, units_text, writing};
+use crate::{datetime64, fragments, instant, iso, reading, runs, tt2000, units_text, writing};
 
 pub fn read_units(calendar: &[u8], text: &[u8]) -> answers::AxisAnswer {
     axis_answer(units_text::read_units(calendar, text))
@@ -93,4 +93,18 @@ pub fn read_datetime64(identifier: &[u8], records: &[u8], destination: &mut [i64
 
 pub fn write_datetime64(identifier: &[u8], instants: &[i64], records: &mut [u8]) -> answers::RunAnswer {
     run_answer(datetime64::write(identifier, instants, records))
+}
+
+pub fn read_tt2000(leap_seconds: &[u8], number: i64) -> answers::UtcFieldsAnswer {
+    match tt2000::read(leap_seconds, number) {
+        Ok(fields) => answers::UtcFieldsAnswer { number: 0, fields },
+        Err(refusal) => answers::UtcFieldsAnswer { number: refusal.number(), ..Default::default() },
+    }
+}
+
+pub fn write_tt2000(leap_seconds: &[u8], fields: answers::UtcFields) -> answers::Tt2000Answer {
+    match tt2000::write(leap_seconds, fields) {
+        Ok(tt2000) => answers::Tt2000Answer { number: 0, tt2000 },
+        Err(refusal) => answers::Tt2000Answer { number: refusal.number(), ..Default::default() },
+    }
 }

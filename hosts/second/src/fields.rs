@@ -53,7 +53,7 @@ impl Zone {
 }
 
 /// Whether so many of a unit are less than one of the next.
-fn is_part(number: u32, unit: i128, next: i128) -> bool {
+pub fn is_part(number: u32, unit: i128, next: i128) -> bool {
     number as i128 * unit < next
 }
 
@@ -80,12 +80,14 @@ fn met() -> &'static Met {
     })
 }
 
-fn has_possible_month_and_day(date: Date) -> bool {
-    met().months.contains(&date.month) && met().days.contains(&date.day)
+/// Refuses a date whose month or day is not possible, or that has something beside it that is not.
+pub fn possible(date: Date, is_beside_possible: bool) -> Result<(), Refusal> {
+    let is_possible = met().months.contains(&date.month) && met().days.contains(&date.day) && is_beside_possible;
+    if is_possible { Ok(()) } else { Err(Refusal::ImpossibleField) }
 }
 
 /// Why a calendar has no such date, whose month and day are possible.
-fn lack(calendar: Calendar, date: Date) -> Refusal {
+pub fn lack(calendar: Calendar, date: Date) -> Refusal {
     let is_dropped = calendar == Calendar::Standard && dropped().any(|other| other == date);
     if is_dropped { Refusal::DroppedDate } else { Refusal::MissingDate }
 }
@@ -96,8 +98,6 @@ pub fn tested_day(calendar: Calendar, local: Fields, zone: Zone) -> Result<i64, 
     if !(-9999..=9999).contains(&local.date.year) {
         return Err(Refusal::OutOfRange);
     }
-    if !has_possible_month_and_day(local.date) || !local.has_possible_clock() || !zone.is_possible() {
-        return Err(Refusal::ImpossibleField);
-    }
+    possible(local.date, local.has_possible_clock() && zone.is_possible())?;
     day_of_date(calendar, local.date).ok_or_else(|| lack(calendar, local.date))
 }

@@ -6,6 +6,7 @@
 //! - A double is an exact fraction of big integers (`dyadic`), and rounding compares exact remainders (`nearest`).
 //! - A text is matched in every way that its grammar allows (`ways`, `date_text`, `units_text`, `datetime64_type`).
 //! - Of a text in fragments each byte is put at its place alone (`fragments`).
+//! - The days of UTC are walked one by one with their leap seconds (`leap_seconds`), and a TT2000 is sought among their starts (`tt2000`).
 //! - Writing searches for the offset, or the number of a record, among the readings (`writing`, `datetime64`).
 //!
 //! `boundary` has a counterpart for each call of the C boundary. It is slow, and nothing in it is proved.
@@ -25,6 +26,7 @@ pub mod fragments;
 pub mod instant;
 pub mod integer;
 pub mod iso;
+pub mod leap_seconds;
 pub mod listing;
 pub mod natural;
 pub mod nearest;
@@ -32,6 +34,7 @@ pub mod next_day;
 pub mod reading;
 pub mod refusal;
 pub mod runs;
+pub mod tt2000;
 pub mod units_text;
 pub mod ways;
 pub mod writing;

@@ -15,6 +15,8 @@ pub enum Refusal {
     NotOpen = 11,
     MissingDate = 12,
     DroppedDate = 13,
+    BadLeapSeconds = 14,
+    Before1972 = 15,
 }
 
 impl Refusal {

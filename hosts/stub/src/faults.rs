@@ -3,6 +3,7 @@
 pub mod dates;
 pub mod datetime64;
 pub mod fragments;
+pub mod tt2000;
 
 use answers::*;
 use second::boundary;

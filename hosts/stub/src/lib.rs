@@ -185,3 +185,19 @@ unsafe extern "C" fn uppinalo_write_datetime64(
     let (identifier, instants) = unsafe { (lent(identifier, identifier_len), lent(instants, n)) };
     faults::datetime64::write(identifier, instants, unsafe { lent_mut(records, records_room) })
 }
+
+#[unsafe(no_mangle)]
+unsafe extern "C" fn uppinalo_read_tt2000(list: *const u8, list_len: usize, tt2000: i64) -> UtcFieldsAnswer {
+    if faults::is_on("read_tt2000_list_changed") && list_len > 0 {
+        unsafe { list.cast_mut().write(0) };
+    }
+    faults::tt2000::read(unsafe { lent(list, list_len) }, tt2000)
+}
+
+#[unsafe(no_mangle)]
+unsafe extern "C" fn uppinalo_write_tt2000(list: *const u8, list_len: usize, fields: UtcFields) -> Tt2000Answer {
+    if faults::is_on("write_tt2000_list_changed") && list_len > 0 {
+        unsafe { list.cast_mut().write(0) };
+    }
+    faults::tt2000::write(unsafe { lent(list, list_len) }, fields)
+}

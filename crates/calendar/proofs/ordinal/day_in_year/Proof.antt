@@ -35,7 +35,7 @@ sub-unbiased : tie.Need-sub-unbiased
 sub-unbiased c = parts c .day-low
 
 days-before-requires : tie.Need-days-before-requires
-days-before-requires c κs = let s = c .before in (s .pre .0, (omega (arith, parts s .month-low, parts s .month-high), omega (arith, below s)))
+days-before-requires c κs = let s = c .before in (omega (arith, s .pre .0), (omega (arith, parts s .month-low, parts s .month-high), omega (arith, below s)))
 
 add-unbiased : tie.Need-add-unbiased
 add-unbiased c = record { fits = omega (arith, day-is (c .before), below (c .before .before .before), c .origin .ensures, c .before .before .before .pre .0) }

@@ -2,8 +2,9 @@
 use mathlib.Core.Path.{sym, ap, _∙_}
 use borrow.Author.Needs.{needs}
 use Rattle.datetime64_type.specs.declared.ByteOrder.{ByteOrder}
-use Rattle.datetime64_runs.specs.Records.{littleEndian, littleBytes, inOrder}
-use Rattle.datetime64_runs.proofs.Bytes.{little-back}
+use Rattle.int64_bytes.specs.LittleEndian.{littleEndian, littleBytes}
+use Rattle.datetime64_runs.specs.Records.{inOrder}
+use Rattle.int64_bytes.proofs.Bytes.{little-back}
 use Rattle.datetime64_runs.proofs.records.in_order.Statement.{statement}
 use Rattle.datetime64_runs.proofs.records.in_order.Tie as tie
 

@@ -7,8 +7,9 @@ use mir.Syntax.{w64}
 use mir.Val.{toZ}
 use mir.ValLaws.{toZ-ofZ}
 use borrow.Author.Needs.{needs}
-use Rattle.datetime64_runs.specs.Records.{littleEndian, littleBytes, inOrder, recordNumber}
-use Rattle.datetime64_runs.proofs.Bytes.{bytes-back}
+use Rattle.int64_bytes.specs.LittleEndian.{littleEndian, littleBytes}
+use Rattle.datetime64_runs.specs.Records.{inOrder, recordNumber}
+use Rattle.int64_bytes.proofs.Bytes.{bytes-back}
 use Rattle.datetime64_runs.proofs.records.number_in.Statement.{statement}
 use Rattle.datetime64_runs.proofs.records.number_in.Tie as tie
 

@@ -5,7 +5,8 @@ use mir.Syntax.{w64}
 use mir.Val.{ofZ}
 use mir.ValLaws.{toZ-ofZ}
 use borrow.Author.Needs.{needs}
-use Rattle.datetime64_runs.specs.Records.{littleBytes, inOrder, recordOf}
+use Rattle.int64_bytes.specs.LittleEndian.{littleBytes}
+use Rattle.datetime64_runs.specs.Records.{inOrder, recordOf}
 use Rattle.datetime64_runs.proofs.Bytes.{ordered-back}
 use Rattle.datetime64_runs.proofs.records.record_of.Statement.{statement}
 use Rattle.datetime64_runs.proofs.records.record_of.Tie as tie

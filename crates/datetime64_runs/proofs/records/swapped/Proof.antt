@@ -1,6 +1,6 @@
 -- `datetime64_runs::records::swapped` meets its contract.
 use borrow.Author.Needs.{needs}
-use Rattle.datetime64_runs.specs.Records.{littleBytes}
+use Rattle.int64_bytes.specs.LittleEndian.{littleBytes}
 use Rattle.datetime64_runs.proofs.records.swapped.Statement.{statement}
 use Rattle.datetime64_runs.proofs.records.swapped.Tie as tie
 

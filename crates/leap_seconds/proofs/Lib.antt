@@ -1,0 +1,4 @@
+pub mod Testing
+pub mod Listed
+pub mod OnDays
+pub mod Moments

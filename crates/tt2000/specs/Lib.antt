@@ -1,0 +1,3 @@
+pub mod Tt2000
+pub mod Order
+pub mod Closed
