@@ -1,11 +1,11 @@
 -- The day number of a date is the number whose date it is.
 use mathlib.Core.Path.{_≡_, sym, ap, _∙_}
-use mathlib.Core.Bool.{Bool, true, false, cond}
+use mathlib.Core.Bool.{Bool, true, false, cond, true≢false}
 use Prim.Native.Nat.{ℕ, zero, suc, _+_, _-_, _<_, _≤_}
 use native.Mathlib.Omega.{arith}
 use native.Mathlib.Decide.{decLe}
 use lib.IntN.{ℤ, sucℤ, subℕ}
-use Rattle.signed.proofs.Tests.{to-false}
+use Rattle.signed.proofs.Tests.{test-is, to-false}
 use Rattle.signed.proofs.Differences.{sub-suc, sub-inj}
 use Rattle.calendar.specs.Calendar.{dateOf, inYears, rowOf}
 use Rattle.calendar.specs.Order.{sameDate}
@@ -23,6 +23,13 @@ module _ (c : Calendar) where
   pub one-day : (z w : ℤ) → dateOf c z ≡ dateOf c w → z ≡ w
   unfolding dateOf
   one-day = Walk.one-day (rowOf c) (row-chain (rowOf c) (cutover c)) (row-start (rowOf c) (cutover c))
+
+  -- so of two day numbers the dates are the same just where a test that tells whether the numbers are holds
+  pub same-day : (z w : ℤ) (t : Bool) → (z ≡ w → t ≡ true) → ((z ≡ w → ⊥) → t ≡ false) → sameDate (dateOf c z) (dateOf c w) ≡ t
+  same-day z w t f g =
+      test-is (sameDate (dateOf c z) (dateOf c w)) t
+      (λ h. f (one-day z w (same-of (dateOf c z) (dateOf c w) h)))
+      (λ h. g (λ e. true≢false (sym (same-self (dateOf c w)) ∙ (ap (λ (y : ℤ). sameDate (dateOf c y) (dateOf c w)) (sym e) ∙ h))))
 
   -- the search finds the number n of a date, from any s at or below it
   search : (x : Date) (k s n b : ℕ) → s ≤ n → n < s + k → dateOf c (subℕ n b) ≡ x → numberFrom c x k (subℕ s b) ≡ subℕ n b

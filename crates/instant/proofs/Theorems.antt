@@ -1,6 +1,6 @@
 -- What is proved of instants and their fields, in one place: there and back, and order. `c` is any of the six calendars, t and u any integers.
 use mathlib.Core.Path.{_≡_, refl, sym, ap, _∙_}
-use mathlib.Core.Bool.{Bool, true, false, _&&_, _||_, cond, true≢false}
+use mathlib.Core.Bool.{Bool, true, false, _&&_, _||_, cond}
 use Prim.Native.Nat.{ℕ, suc, _+_, _-_, _*_, _/_, _%_, _<_}
 use native.Mathlib.Omega.{arith}
 use lib.Dec.{ltb, eqb}
@@ -9,8 +9,8 @@ use lib.Signed.{ltZ}
 use borrow.Author.Tests.{lt-ltb, eq-eqb, ne-eqb}
 use Rattle.refusal.specs.declared.Refusal.{Refusal}
 use Rattle.refusal.specs.declared.Refusal.the-variants.{OutOfRange}
-use Rattle.signed.proofs.Tests.{test-is, and-parts}
-use Rattle.signed.proofs.Differences.{Common, common, by-sign, sub-low, sub-high, sub-lt, sub-inj, neg-plus, times-plus}
+use Rattle.signed.proofs.Tests.{and-parts}
+use Rattle.signed.proofs.Differences.{common, by-sign, sub-low, sub-high, sub-lt, sub-inj, neg-plus, times-plus}
 use Rattle.signed.proofs.Lexicographic.{lexicographic}
 use Rattle.calendar.specs.Calendar.{dateOf, exists, inYears}
 use Rattle.calendar.specs.Order.{earlier, sameDate}
@@ -19,9 +19,9 @@ use Rattle.calendar.specs.declared.Calendar.{Calendar}
 use Rattle.calendar.specs.declared.Date.{Date}
 use Rattle.calendar.specs.declared.DateAnswer.{DateAnswer}
 use Rattle.calendar.specs.declared.DayAnswer.{DayAnswer}
-use Rattle.calendar.proofs.Numbering.{same-of, same-self}
+use Rattle.calendar.proofs.Numbering.{same-day}
 use Rattle.calendar.proofs.Answering.{in-range, out-of-range, date-there}
-use Rattle.calendar.proofs.Theorems.{order, one-day, dates-exist, date-of-number, Numbered, answered}
+use Rattle.calendar.proofs.Theorems.{order, dates-exist, date-of-number, Numbered, answered}
 use Rattle.instant.specs.Instant.{dayOf, timeOf, instantAt, inRange, fieldsAt, withTime, fieldsAnswer, dateIn, isClock, clockTime, withClock, instantWith, instantAnswer}
 use Rattle.instant.specs.Order.{earlierClock, earlierFields}
 use Rattle.instant.specs.declared.Fields.{Fields}
@@ -193,13 +193,6 @@ clock-at d s h e r g =
     clock-order (fieldsAt d s) (fieldsAt e r) (clock-of (fieldsAt d s) (clock-of-time d s h)) (clock-of (fieldsAt e r) (clock-of-time e r g))
     ∙ (λ i. ltb (time-of-fields d s i) (time-of-fields e r i))
 
--- two day numbers have one date where they are one number
-same-day : (c : Calendar) (z w : ℤ) (k : Common z w) → sameDate (dateOf c z) (dateOf c w) ≡ eqb (k .left) (k .right)
-same-day c z w k =
-    test-is (sameDate (dateOf c z) (dateOf c w)) (eqb (k .left) (k .right))
-    (λ h. eq-eqb (k .left) (k .right) (sub-inj (k .left) (k .right) (k .least) (k .is-left ∙ (one-day c z w (same-of (dateOf c z) (dateOf c w) h) ∙ sym (k .is-right)))))
-    (λ h. ne-eqb (k .left) (k .right) (λ e. true≢false (sym (same-self (dateOf c w)) ∙ (ap (λ (x : ℤ). sameDate (dateOf c x) (dateOf c w)) (sym (k .is-right) ∙ (ap (λ (n : ℕ). subℕ n (k .least)) (sym e) ∙ k .is-left)) ∙ h))))
-
 instant-is : (t : ℤ) (a b : ℕ) → subℕ a b ≡ dayOf t → subℕ (a * 86400000000 + timeOf t) (b * 86400000000) ≡ t
 instant-is t a b e = sym (times-plus a b 86400000000 (timeOf t)) ∙ (ap (λ (z : ℤ). z *ℤ pos 86400000000 +ℤ pos (timeOf t)) e ∙ day-and-time t)
 
@@ -211,7 +204,7 @@ fields-order c t u f g p q =
     let w = shown c u g q in
     let k = common (dayOf t) (dayOf u) in
     let day : earlier (dateOf c (dayOf t)) (dateOf c (dayOf u)) ≡ ltb (k .left) (k .right) = order c (dayOf t) (dayOf u) ∙ ((λ i. ltZ (sym (k .is-left) i) (sym (k .is-right) i)) ∙ sub-lt (k .left) (k .right) (k .least)) in
-    let same : sameDate (dateOf c (dayOf t)) (dateOf c (dayOf u)) ≡ eqb (k .left) (k .right) = same-day c (dayOf t) (dayOf u) k in
+    let same : sameDate (dateOf c (dayOf t)) (dateOf c (dayOf u)) ≡ eqb (k .left) (k .right) = same-day c (dayOf t) (dayOf u) (eqb (k .left) (k .right)) (λ e. eq-eqb (k .left) (k .right) (sub-inj (k .left) (k .right) (k .least) (k .is-left ∙ (e ∙ sym (k .is-right))))) (λ e. ne-eqb (k .left) (k .right) (λ h. e (sym (k .is-left) ∙ (ap (λ (n : ℕ). subℕ n (k .least)) h ∙ k .is-right)))) in
     let clock : earlierClock (fieldsAt (dateOf c (dayOf t)) (timeOf t)) (fieldsAt (dateOf c (dayOf u)) (timeOf u)) ≡ ltb (timeOf t) (timeOf u) = clock-at (dateOf c (dayOf t)) (timeOf t) (time-small t) (dateOf c (dayOf u)) (timeOf u) (time-small u) in
     (λ i. earlierFields (sym (v .is) i) (sym (w .is) i))
     ∙ ((λ i. day i || (same i && clock i))

@@ -15,19 +15,12 @@ use Rattle.leap_seconds.specs.declared.Moment.{Moment}
 use Rattle.leap_seconds.proofs.Listed.{Listed, rising}
 use Rattle.leap_seconds.proofs.OnDays.{DayEnd, leap, plain, day-end, first-holds, holds-order, leap-test}
 
-pub least-seconds : (l : List Leap) (d : ℕ) → 86400 ≤ daySeconds l d
-least-seconds l d = go (isLeapDay l d)
+pub day-seconds : (l : List Leap) (d : ℕ) → (86400 ≤ daySeconds l d) × (daySeconds l d ≤ 86401)
+day-seconds l d = go (isLeapDay l d)
   where
-    go : (t : Bool) → 86400 ≤ cond t 86401 86400
-    go true = omega arith
-    go false = omega arith
-
-pub most-seconds : (l : List Leap) (d : ℕ) → daySeconds l d ≤ 86401
-most-seconds l d = go (isLeapDay l d)
-  where
-    go : (t : Bool) → cond t 86401 86400 ≤ 86401
-    go true = omega arith
-    go false = omega arith
+    go : (t : Bool) → (86400 ≤ cond t 86401 86400) × (cond t 86401 86400 ≤ 86401)
+    go true = (omega arith, omega arith)
+    go false = (omega arith, omega arith)
 
 module _ (s : List ℕ) (l : Listed s) where
   -- second q of day d, on which record j holds
@@ -90,12 +83,12 @@ module _ (s : List ℕ) (l : Listed s) where
         | no h ↦
             let t = left d q j a in
             let w = t .1 .whole (omega (arith, a .within)) in
-            record { day = suc d; second = 0; leaps-before = t .0; in-day = record { holds = t .1 .holds; low = omega (arith, a .low); within = omega (arith, least-seconds (leaps s) (suc d)) }; is = rw (le-ltb (suc q) (daySeconds (leaps s) d) (omega arith)); sum = omega arith }
+            record { day = suc d; second = 0; leaps-before = t .0; in-day = record { holds = t .1 .holds; low = omega (arith, a .low); within = omega (arith, day-seconds (leaps s) (suc d) .0) }; is = rw (le-ltb (suc q) (daySeconds (leaps s) d) (omega arith)); sum = omega arith }
       ]
 
   pub reached : (n : ℕ) → Reached (momentAt (leaps s) n) n
   unfolding momentAt
-  reached zero = record { day = 730; second = 0; leaps-before = 0; in-day = record { holds = first-holds s l; low = omega arith; within = omega (arith, least-seconds (leaps s) 730) }; is = refl; sum = omega arith }
+  reached zero = record { day = 730; second = 0; leaps-before = 0; in-day = record { holds = first-holds s l; low = omega arith; within = omega (arith, day-seconds (leaps s) 730 .0) }; is = refl; sum = omega arith }
   reached (suc n) =
       let r = reached n in
       let t = next-is (r .day) (r .second) (r .leaps-before) n (r .in-day) (r .sum) in
@@ -112,7 +105,7 @@ module _ (s : List ℕ) (l : Listed s) where
       let r = reached n in
       let d = ap (λ (m : Moment). m .day) (r .is) in
       let q = ap (λ (m : Moment). m .second) (r .is) in
-      (omega (arith, r .sum), omega (arith, r .in-day .within, most-seconds (leaps s) (r .day)))
+      (omega (arith, r .sum), omega (arith, r .in-day .within, day-seconds (leaps s) (r .day) .1))
 
   -- ---- the moment of a time. t counts seconds from 1970 on, with the leap seconds since 1972, and record i holds on day t / 86400 of days
   -- without leap seconds
@@ -123,7 +116,7 @@ module _ (s : List ℕ) (l : Listed s) where
 
     -- record i has begun
     pub begun : dayAt s i ≤ (t - i) / 86400 → InDay ((t - i) / 86400) ((t - i) % 86400) i
-    begun g = record { holds = record { inside = h .inside; from = g; until = λ f. omega (arith, h .until f) }; low = omega (arith, l .first, rising s l 0 i (omega arith) (h .inside)); within = omega (arith, least-seconds (leaps s) ((t - i) / 86400)) }
+    begun g = record { holds = record { inside = h .inside; from = g; until = λ f. omega (arith, h .until f) }; low = omega (arith, l .first, rising s l 0 i (omega arith) (h .inside)); within = omega (arith, day-seconds (leaps s) ((t - i) / 86400) .0) }
 
     module _ (g : (t - i) / 86400 < dayAt s i) where
       pub not-first : 1 ≤ i
@@ -148,7 +141,7 @@ module _ (s : List ℕ) (l : Listed s) where
       before-it a =
           let d = (t - i + 1) / 86400 in
           let held = before d a (omega (arith, h .from, enough)) in
-          record { holds = held; low = low-before d held; within = omega (arith, least-seconds (leaps s) d) }
+          record { holds = held; low = low-before d held; within = omega (arith, day-seconds (leaps s) d .0) }
 
       -- it begins after the leap second
       pub leap-second : dayAt s i ≤ (t - i + 1) / 86400 → InDay (dayAt s i - 1) 86400 (i - 1)

@@ -153,18 +153,20 @@ module _ (s : List ℕ) (l : Listed s) where
   pub day-end : (d j : ℕ) → 730 ≤ d → HoldsOn s d j → DayEnd d j
   day-end d j low h = by-next (decLe (suc (suc j)) n)
     where
-      by-next : Dec (suc j < n) → DayEnd d j
-      by-next (no f) =
-          let t : HoldsOn s (suc d) j = record { inside = h .inside; from = omega (arith, h .from); until = λ g. absurd (f g) } in
+      -- record j holds on the next day too
+      stays : (suc j < n → suc d < dayAt s (suc j)) → DayEnd d j
+      stays f =
+          let t : HoldsOn s (suc d) j = record { inside = h .inside; from = omega (arith, h .from); until = f } in
           plain (sym (leap-test d j low t) ∙ ne-eqb (dayAt s j) (suc d) (λ e. omega (arith, h .from))) t
+
+      by-next : Dec (suc j < n) → DayEnd d j
+      by-next (no f) = stays (λ g. absurd (f g))
       by-next (yes f) =
           elim (decLe (dayAt s (suc j)) (suc d)) [
             | yes g ↦
                 let t : HoldsOn s (suc d) (suc j) = record { inside = f; from = g; until = λ e. omega (arith, h .until f, l .later (suc j) e) } in
                 leap (sym (leap-test d (suc j) low t) ∙ eq-eqb (dayAt s (suc j)) (suc d) (omega (arith, h .until f))) t
-            | no g ↦
-                let t : HoldsOn s (suc d) j = record { inside = h .inside; from = omega (arith, h .from); until = λ e. omega arith } in
-                plain (sym (leap-test d j low t) ∙ ne-eqb (dayAt s j) (suc d) (λ e. omega (arith, h .from))) t
+            | no g ↦ stays (λ e. omega arith)
           ]
 
   -- from 1972 on some record holds

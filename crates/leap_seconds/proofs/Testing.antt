@@ -20,14 +20,6 @@ use Rattle.leap_seconds.specs.Closed.{dayAt}
 
 -- ---- a word of 64 bits read with a sign
 
--- where the result is not negative, it is the word
-pub word-is : (w : ℕ) (n : ℕ) → toZ w64 w ≡ pos n → w ≡ n
-word-is w n = go (ltb w (2 ^ 63)) refl
-  where
-    go : (t : Bool) → ltb w (2 ^ 63) ≡ t → toZ w64 w ≡ pos n → w ≡ n
-    go true h e = ap mag (sym (toZ-pos w64 w (ltb-true w (2 ^ 63) h)) ∙ e)
-    go false h e = absurd (pos-ne-negsuc n (2 ^ 64 - suc w) (sym e ∙ rw h))
-
 pub word-negative : (w : ℕ) → 9223372036854775808 ≤ w → toZ w64 w ≡ negsuc (2 ^ 64 - suc w)
 word-negative w h = rw (le-ltb w (2 ^ 63) h)
 
@@ -37,6 +29,10 @@ word-small w n e =
       | yes h ↦ absurd (pos-ne-negsuc n (2 ^ 64 - suc w) (sym e ∙ word-negative w h))
       | no h ↦ omega arith
     ]
+
+-- where the result is not negative, it is the word
+pub word-is : (w n : ℕ) → toZ w64 w ≡ pos n → w ≡ n
+word-is w n e = ap mag (sym (toZ-pos w64 w (word-small w n e)) ∙ e)
 
 pub natural-is : (z : ℤ) (n : ℕ) → isNatural z n ≡ true → z ≡ pos n
 natural-is (pos m) n h = ap pos (eqb-true m n h)

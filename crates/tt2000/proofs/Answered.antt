@@ -27,7 +27,7 @@ use Rattle.tt2000.specs.Tt2000.{ttOf, startOf, utcFieldsAt, afterStart, 
 use Rattle.tt2000.specs.declared.UtcFields.{UtcFields}
 use Rattle.tt2000.specs.declared.UtcAnswer.{UtcAnswer}
 use Rattle.tt2000.specs.declared.Tt2000Answer.{Tt2000Answer}
-use Rattle.tt2000.proofs.Numbers.{numberAt, tt-is, start-is}
+use Rattle.tt2000.proofs.Numbers.{numberAt, tt-is, Limited, in-bits, too-great, limits, start-is}
 use Rattle.tt2000.proofs.Writing.{UtcTime, time-of, impossible-time, impossible-date, missing, too-early, too-late, on-day, before-1972}
 
 module _ (s : List ℕ) (good : isGood s ≡ true) where
@@ -139,12 +139,9 @@ module _ (s : List ℕ) (good : isGood s ≡ true) where
   pub written-as : (f : UtcFields) (t : ℤ) → writeTt2000 s f ≡ Tt2000Answer.Is t → WrittenAs f t
   written-as f t = go (outcome f)
     where
-      limited-is : (z : ℤ) → limited z ≡ Tt2000Answer.Is t → (z ≡ t) × (in64Bits t ≡ true)
-      limited-is z = by-test (in64Bits z) refl
-        where
-          by-test : (b : Bool) → in64Bits z ≡ b → cond b (Tt2000Answer.Is z) (Tt2000Answer.Refused OutOfRange) ≡ Tt2000Answer.Is t → (z ≡ t) × (in64Bits t ≡ true)
-          by-test true e k = let same : z ≡ t = (cc k) in (same, ap in64Bits (sym same) ∙ e)
-          by-test false e k = absurd (let y : _≡_ {A = ℕ} 0 1 = (cc) in omega arith)
+      limited-is : {z : ℤ} {a : Tt2000Answer} → Limited z a → a ≡ Tt2000Answer.Is t → (z ≡ t) × (in64Bits t ≡ true)
+      limited-is {z} (in-bits e) k = let same : z ≡ t = (cc k) in (same, ap in64Bits (sym same) ∙ e)
+      limited-is too-great k = absurd (let y : _≡_ {A = ℕ} 0 1 = (cc) in omega arith)
 
       go : {a : Tt2000Answer} → Outcome f a → a ≡ Tt2000Answer.Is t → WrittenAs f t
       go (impossible h) k = absurd (let y : _≡_ {A = ℕ} 0 1 = (cc) in omega arith)
@@ -152,5 +149,5 @@ module _ (s : List ℕ) (good : isGood s ≡ true) where
       go (early h g b) k = absurd (let y : _≡_ {A = ℕ} 0 1 = (cc) in omega arith)
       go (far h g b y) k = absurd (let y : _≡_ {A = ℕ} 0 1 = (cc) in omega arith)
       go (on d j h g b low e held) k =
-          let w = limited-is (numberOn d (daySecond f) j (f .nanosecond)) k in
+          let w = limited-is (limits (numberOn d (daySecond f) j (f .nanosecond))) k in
           record { day = d; leaps-before = j; time = time-of (leaps s) f h; low = low; dated = e; holds = held; number = w .0; fits = w .1 }

@@ -1,6 +1,6 @@
 -- Dates that end with a leap second, by their day numbers.
 use mathlib.Core.Path.{_≡_, sym, ap, _∙_}
-use mathlib.Core.Bool.{true, false, true≢false}
+use mathlib.Core.Bool.{false}
 use mathlib.Core.List.{List}
 use Prim.Native.Nat.{ℕ, zero, suc, _-_, _/_, _<_, _≤_, _^_}
 use native.Mathlib.Omega.{arith}
@@ -9,13 +9,12 @@ use lib.IntN.{ℤ, pos, predℤ}
 use lib.ListN.{length}
 use lib.Signed.{mag}
 use borrow.Author.Tests.{eq-eqb, ne-eqb}
-use Rattle.signed.proofs.Tests.{test-is, to-false}
+use Rattle.signed.proofs.Tests.{to-false}
 use Rattle.calendar.specs.Calendar.{dateOf}
 use Rattle.calendar.specs.Order.{sameDate}
 use Rattle.calendar.specs.declared.Calendar.the-variants.{ProlepticGregorian}
 use Rattle.calendar.specs.declared.Date.{Date}
-use Rattle.calendar.proofs.Numbering.{same-of, same-self}
-use Rattle.calendar.proofs.Theorems.{one-day}
+use Rattle.calendar.proofs.Numbering.{same-day, same-of}
 use Rattle.leap_seconds.specs.Leaps.{Leap, leapAt, leaps, isNatural}
 use Rattle.leap_seconds.specs.Utc.{isLeapDay}
 use Rattle.leap_seconds.specs.Closed.{dayAt}
@@ -34,13 +33,10 @@ module _ (s : List ℕ) (l : Listed s) (x : Date) where
 
   eve-test : (k m : ℕ) → 1 ≤ k → k < length s / 16 → dateOf ProlepticGregorian (pos m) ≡ x → sameDate (dateOf ProlepticGregorian (predℤ (leapAt s k .day))) x ≡ isNatural (leapAt s k .day) (suc m)
   eve-test k m a b e =
-      let d = dateOf ProlepticGregorian (pos (dayAt s k - 1)) in
-      ap (λ (z : ℤ). sameDate (dateOf ProlepticGregorian z) x) (eve k a b)
-      ∙ (test-is (sameDate d x) (eqb (dayAt s k) (suc m))
-      (λ h. eq-eqb (dayAt s k) (suc m) (omega (arith, after-first s l k a b, ap mag (one-day ProlepticGregorian (pos (dayAt s k - 1)) (pos m) (same-of d x h ∙ sym e)))))
-      (λ h. ne-eqb (dayAt s k) (suc m) (λ g.
-      let f : dayAt s k - 1 ≡ m = omega arith in
-      true≢false (sym (same-self x) ∙ (ap (λ (y : Date). sameDate y x) (sym e ∙ ap (λ (n : ℕ). dateOf ProlepticGregorian (pos n)) (sym f)) ∙ h))))
+      let n = dayAt s k in
+      let later = after-first s l k a b in
+      (λ i. sameDate (dateOf ProlepticGregorian (eve k a b i)) (sym e i))
+      ∙ (same-day ProlepticGregorian (pos (n - 1)) (pos m) (eqb n (suc m)) (λ g. eq-eqb n (suc m) (omega (arith, ap mag g))) (λ g. ne-eqb n (suc m) (λ h. let f : n - 1 ≡ m = omega arith in g (ap pos f)))
       ∙ sym (day-test s l (suc m) k b))
 
   -- the date of day m

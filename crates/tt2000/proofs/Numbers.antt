@@ -37,6 +37,18 @@ module _ (k : ℕ) where
   pub past-64 : 10170100004670775808 ≤ k → Tt2000Answer.Refused OutOfRange ≡ limited (subℕ k 946727967816000000)
   past-64 h = ap (λ (b : Bool). cond b (Tt2000Answer.Is (subℕ k 946727967816000000)) (Tt2000Answer.Refused OutOfRange)) (sym (by-sign (λ (z : ℤ). in64Bits z ≡ false) k 946727967816000000 (λ g. absurd (omega arith)) (λ g. lt-leb (k - 946727967816000000) 9223372036854775807 (omega arith))))
 
+-- a number is given where it fits
+pub data Limited (z : ℤ) : Tt2000Answer → Type 0 where
+  in-bits : in64Bits z ≡ true → Limited z (Tt2000Answer.Is z)
+  too-great : Limited z (Tt2000Answer.Refused OutOfRange)
+
+pub limits : (z : ℤ) → Limited z (limited z)
+limits z = go (in64Bits z) refl
+  where
+    go : (t : Bool) → in64Bits z ≡ t → Limited z (cond t (Tt2000Answer.Is z) (Tt2000Answer.Refused OutOfRange))
+    go true e = in-bits e
+    go false e = too-great
+
 -- ---- from the beginning of 1972
 
 module _ (s : List ℕ) (l : Listed s) where

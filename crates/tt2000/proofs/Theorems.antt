@@ -24,19 +24,20 @@ use Rattle.calendar.specs.declared.Calendar.the-variants.{ProlepticGregorian}
 use Rattle.calendar.specs.declared.Date.{Date}
 use Rattle.calendar.proofs.Existing.{exists-possible}
 use Rattle.calendar.proofs.Answering.{years-middle}
-use Rattle.calendar.proofs.Numbering.{same-of, same-self}
-use Rattle.calendar.proofs.Theorems.{order, one-day, dates-exist}
+use Rattle.calendar.proofs.Numbering.{same-day, same-of, same-self}
+use Rattle.calendar.proofs.Theorems.{order, dates-exist}
 use Rattle.calendar.proofs.AnyYear.{day-10957}
 use Rattle.leap_seconds.specs.Leaps.{Leap, leapAt, leaps, isGood}
 use Rattle.leap_seconds.specs.Utc.{countOn, moment}
 use Rattle.leap_seconds.specs.Closed.{dayAt}
 use Rattle.leap_seconds.proofs.OnDays.{there-later, after-first, holds-order, count-is, held, found-later}
-use Rattle.leap_seconds.proofs.Moments.{InDay, least-seconds, most-seconds, later-day}
+use Rattle.leap_seconds.proofs.Moments.{InDay, day-seconds, later-day}
 use Rattle.tt2000.specs.Tt2000.{ttOf, utcFieldsAt, readTt2000, dateOfUtc, daySecond, isLeapDate, isUtcTime, in64Bits, limited, writeTt2000}
 use Rattle.tt2000.specs.Order.{earlierUtc}
 use Rattle.tt2000.specs.declared.UtcFields.{UtcFields}
 use Rattle.tt2000.specs.declared.UtcAnswer.{UtcAnswer}
 use Rattle.tt2000.specs.declared.Tt2000Answer.{Tt2000Answer}
+use Rattle.tt2000.proofs.Numbers.{Limited, in-bits, too-great, limits}
 use Rattle.tt2000.proofs.Writing.{Second, plain, leap, UtcTime, time-of, on-day, before-1972}
 use Rattle.tt2000.proofs.LeapDates.{eve}
 use Rattle.tt2000.proofs.Clock.{clock-order}
@@ -121,8 +122,8 @@ module _ (s : List ℕ) (good : isGood s ≡ true) where
 
     number-order : ltb y y′ ≡ ltZ (numberOn s good d q j n) (numberOn s good d′ q′ j′ n′)
     number-order =
-        let most = most-seconds (leaps s) d in
-        let most′ = most-seconds (leaps s) d′ in
+        let most = day-seconds (leaps s) d .1 in
+        let most′ = day-seconds (leaps s) d′ .1 in
         elim (decLe (suc d) d′) [
           | yes h ↦ lt-ltb y y′ (omega (arith, a .within)) ∙ sym (lt-ltb x x′ (omega (arith, later-day s (l s good) d q j d′ q′ j′ a b h)))
           | no h ↦ elim (decLe (suc d′) d) [
@@ -133,15 +134,6 @@ module _ (s : List ℕ) (good : isGood s ≡ true) where
           ]
         ]
         ∙ sym (sub-lt x x′ 946727967816000000)
-
-  -- two days have one date where they are one day
-  same-day : (d d′ : ℕ) → sameDate (dateOf ProlepticGregorian (pos d)) (dateOf ProlepticGregorian (pos d′)) ≡ eqb d d′
-  same-day d d′ =
-      let v = dateOf ProlepticGregorian (pos d) in
-      let w = dateOf ProlepticGregorian (pos d′) in
-      test-is (sameDate v w) (eqb d d′)
-      (λ h. eq-eqb d d′ (ap mag (one-day ProlepticGregorian (pos d) (pos d′) (same-of v w h))))
-      (λ h. ne-eqb d d′ (λ e. true≢false (sym (same-self w) ∙ (ap (λ (k : ℕ). sameDate (dateOf ProlepticGregorian (pos k)) w) (sym e) ∙ h))))
 
   pub rises : (t u : ℤ) (f g : UtcFields) → readTt2000 s t ≡ UtcAnswer.Is f → readTt2000 s u ≡ UtcAnswer.Is g → earlierUtc f g ≡ ltZ t u
   unfolding earlierUtc utcFieldsAt
@@ -154,11 +146,12 @@ module _ (s : List ℕ) (good : isGood s ≡ true) where
       let q′ = v .second in
       let n = r .nanosecond in
       let n′ = v .nanosecond in
-      let low : q ≤ 86400 = omega (arith, r .in-day .within, most-seconds (leaps s) d) in
-      let low′ : q′ ≤ 86400 = omega (arith, v .in-day .within, most-seconds (leaps s) d′) in
+      let low : q ≤ 86400 = omega (arith, r .in-day .within, day-seconds (leaps s) d .1) in
+      let low′ : q′ ≤ 86400 = omega (arith, v .in-day .within, day-seconds (leaps s) d′ .1) in
       let days : earlier (dateOf ProlepticGregorian (pos d)) (dateOf ProlepticGregorian (pos d′)) ≡ ltb d d′ = order ProlepticGregorian (pos d) (pos d′) in
+      let same : sameDate (dateOf ProlepticGregorian (pos d)) (dateOf ProlepticGregorian (pos d′)) ≡ eqb d d′ = same-day ProlepticGregorian (pos d) (pos d′) (eqb d d′) (λ e. eq-eqb d d′ (ap mag e)) (λ e. ne-eqb d d′ (λ g. e (ap pos g))) in
       (λ i. earlierUtc (sym (r .is) i) (sym (v .is) i))
-      ∙ ((λ i. days i || (same-day d d′ i && clock-order q n q′ n′ low low′ (r .small) (v .small) i))
+      ∙ ((λ i. days i || (same i && clock-order q n q′ n′ low low′ (r .small) (v .small) i))
       ∙ (sym (lexicographic 86401000000000 d (q * 1000000000 + n) d′ (q′ * 1000000000 + n′) (omega (arith, r .small)) (omega (arith, v .small)))
       ∙ (number-order d q (r .leaps-before) n d′ q′ (v .leaps-before) n′ (r .in-day) (v .in-day) (r .small) (v .small)
       ∙ (λ i. ltZ (r .number i) (v .number i)))))
@@ -211,16 +204,16 @@ module _ (s : List ℕ) (good : isGood s ≡ true) where
         clash : {b : Bool} → b ≡ true → b ≡ false → ⊥
         clash p q = true≢false (sym p ∙ q)
 
-        by-bits : (z : ℤ) (b : Bool) → in64Bits z ≡ b → cond b (Tt2000Answer.Is z) (Tt2000Answer.Refused OutOfRange) ≡ writeTt2000 s f → (t : ℤ) × (writeTt2000 s f ≡ Tt2000Answer.Is t)
-        by-bits z true g e = (z, sym e)
-        by-bits z false g e = absurd (past (sym e))
+        by-bits : {z : ℤ} {r : Tt2000Answer} → Limited z r → r ≡ writeTt2000 s f → (t : ℤ) × (writeTt2000 s f ≡ Tt2000Answer.Is t)
+        by-bits {z} (in-bits g) e = (z, sym e)
+        by-bits too-great e = absurd (past (sym e))
 
         go : {r : Tt2000Answer} → Outcome s good f r → r ≡ writeTt2000 s f → (t : ℤ) × (writeTt2000 s f ≡ Tt2000Answer.Is t)
         go (impossible g) e = absurd (clash (both (isUtcTime (leaps s) f) (isPossible (f .month) (f .day)) leap-time (exists-possible ProlepticGregorian (dateOfUtc f) leap-there)) g)
         go (not-there p g) e = absurd (clash leap-there g)
         go (early p g b) e = absurd (clash b leap-late)
         go (far p g b y) e = absurd (past (sym e))
-        go (on d j p g b low dated held) e = by-bits (numberOn s good d (daySecond f) j (f .nanosecond)) (in64Bits (numberOn s good d (daySecond f) j (f .nanosecond))) refl e
+        go (on d j p g b low dated held) e = by-bits (limits (numberOn s good d (daySecond f) j (f .nanosecond))) e
 
   -- ---- nanosecond 0
 
@@ -230,6 +223,6 @@ module _ (s : List ℕ) (good : isGood s ≡ true) where
       let j = held s (l s good) 10957 (omega arith) in
       let count = count-is s (l s good) 10957 (j .0) (j .1) .is in
       let e : j .0 ≡ 22 = omega (arith, ap mag (sym count ∙ h)) in
-      let i : InDay s (l s good) 10957 43135 (j .0) = record { holds = j .1; low = omega arith; within = omega (arith, least-seconds (leaps s) 10957) } in
+      let i : InDay s (l s good) 10957 43135 (j .0) = record { holds = j .1; low = omega arith; within = omega (arith, day-seconds (leaps s) 10957 .0) } in
       let zero-at : numberOn s good 10957 43135 (j .0) 816000000 ≡ pos 0 = ap (λ (k : ℕ). numberOn s good 10957 43135 k 816000000) e in
       ap (readTt2000 s) (sym zero-at) ∙ (read-of s good 10957 43135 (j .0) 816000000 i (omega arith) ∙ ap (λ (x : Date). UtcAnswer.Is (record { year = x .year; month = x .month; day = x .day; hour = 11; minute = 58; second = 55; nanosecond = 816000000 })) day-10957)

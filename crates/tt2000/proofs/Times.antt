@@ -15,7 +15,7 @@ use Rattle.leap_seconds.specs.Leaps.{leaps}
 use Rattle.leap_seconds.specs.Utc.{isLeapDay, daySeconds, moment}
 use Rattle.leap_seconds.specs.Closed.{HoldsOn}
 use Rattle.leap_seconds.proofs.Listed.{Listed}
-use Rattle.leap_seconds.proofs.Moments.{InDay, least-seconds, most-seconds}
+use Rattle.leap_seconds.proofs.Moments.{InDay, day-seconds}
 use Rattle.tt2000.specs.Tt2000.{minuteOf, utcFieldsAt, dateOfUtc, daySecond, isLeapDate, isSecond, isUtcTime}
 use Rattle.tt2000.specs.declared.UtcFields.{UtcFields}
 use Rattle.tt2000.proofs.LeapDates.{leap-date-is}
@@ -33,7 +33,7 @@ module _ (s : List ℕ) (l : Listed s) where
     f = utcFieldsAt (moment d q) n
 
     at : Clock q
-    at = clock q (omega (arith, i .within, most-seconds (leaps s) d))
+    at = clock q (omega (arith, i .within, day-seconds (leaps s) d .1))
 
     pub date-of-fields : dateOfUtc (utcFieldsAt (moment d q) n) ≡ dateOf ProlepticGregorian (pos d)
     unfolding utcFieldsAt
@@ -71,7 +71,7 @@ module _ (s : List ℕ) (l : Listed s) where
     in-day = record { holds = h; low = low; within = go (t .second) }
       where
         go : Second (leaps s) f → daySecond f < daySeconds (leaps s) d
-        go (plain g) = omega (arith, t .hour, t .minute, least-seconds (leaps s) d)
+        go (plain g) = omega (arith, t .hour, t .minute, day-seconds (leaps s) d .0)
         go (leap a b c g) =
             let y : isLeapDay (leaps s) d ≡ true = sym (leap-date-is s l (dateOfUtc f) d e) ∙ g in
             let k : daySeconds (leaps s) d ≡ 86401 = rw y in

@@ -3,7 +3,7 @@ use mathlib.Core.Path.{_≡_, refl, sym, ap, _∙_}
 use mathlib.Core.Bool.{Bool, true, false, _&&_, cond, true≢false}
 use mathlib.Core.List.{List}
 use mathlib.Core.Logic.{_↔_}
-use Prim.Native.Nat.{ℕ, suc, _+_, _<_}
+use Prim.Native.Nat.{ℕ, suc, _+_, _<_, _≤_}
 use native.Mathlib.Omega.{arith}
 use lib.Dec.{ltb}
 use lib.IntN.{ℤ, pos, negsuc, _+ℤ_, _-ℤ_}
@@ -24,11 +24,11 @@ use Rattle.calendar.proofs.AnyYear.{day-10957}
 use Rattle.calendar.proofs.Existing.{exists-possible}
 use Rattle.leap_seconds.specs.Leaps.{leaps, isGood}
 use Rattle.leap_seconds.proofs.Listed.{Listed, listed}
-use Rattle.tt2000.specs.Tt2000.{startOf, afterStart, readTt2000, dateOfUtc, daySecond, isLeapDate, isSecond, isUtcTime, in64Bits, limited, writeTt2000}
+use Rattle.tt2000.specs.Tt2000.{startOf, afterStart, readTt2000, dateOfUtc, daySecond, isLeapDate, isSecond, isUtcTime, writeTt2000}
 use Rattle.tt2000.specs.declared.UtcFields.{UtcFields}
 use Rattle.tt2000.specs.declared.UtcAnswer.{UtcAnswer}
 use Rattle.tt2000.specs.declared.Tt2000Answer.{Tt2000Answer}
-use Rattle.tt2000.proofs.Numbers.{start-is}
+use Rattle.tt2000.proofs.Numbers.{Limited, in-bits, too-great, limits, start-is}
 use Rattle.tt2000.proofs.Writing.{UtcTime, time-of, Second, plain, leap}
 use Rattle.tt2000.proofs.Answered.{numberOn, read-is, Outcome, impossible, not-there, early, far, on, outcome}
 use Rattle.tt2000.proofs.Theorems as Theorems
@@ -58,31 +58,19 @@ after-start s (negsuc n) h = omega arith
 
 -- one of the five answers of writing
 module _ (s : List ℕ) (good : isGood s ≡ true) (f : UtcFields) where
-  -- of a number z that is given where it fits
-  data Given (z : ℤ) : Tt2000Answer → Type 0 where
-    given : in64Bits z ≡ true → Given z (Tt2000Answer.Is z)
-    past : Given z (Tt2000Answer.Refused OutOfRange)
-
-  by-bits : (z : ℤ) → Given z (limited z)
-  by-bits z = go (in64Bits z) refl
-    where
-      go : (t : Bool) → in64Bits z ≡ t → Given z (cond t (Tt2000Answer.Is z) (Tt2000Answer.Refused OutOfRange))
-      go true e = given e
-      go false e = past
-
   not-bad : ofTt2000 (writeTt2000 s f) .number ≡ 14 → ⊥
   not-bad = go (outcome s good f)
     where
-      held : {z : ℤ} {a : Tt2000Answer} → Given z a → ofTt2000 a .number ≡ 14 → ⊥
-      held (given e) h = omega arith
-      held past h = omega arith
+      held : {z : ℤ} {a : Tt2000Answer} → Limited z a → ofTt2000 a .number ≡ 14 → ⊥
+      held (in-bits e) h = omega arith
+      held too-great h = omega arith
 
       go : {a : Tt2000Answer} → Outcome s good f a → ofTt2000 a .number ≡ 14 → ⊥
       go (impossible g) h = omega arith
       go (not-there p g) h = omega arith
       go (early p g b) h = omega arith
       go (far p g b y) h = omega arith
-      go (on d j p g b low e k) h = held (by-bits (numberOn s good d (daySecond f) j (f .nanosecond))) h
+      go (on d j p g b low e k) h = held (limits (numberOn s good d (daySecond f) j (f .nanosecond))) h
 
 pub bad-lists : (s : List ℕ) → BadLists s
 unfolding readTt2000 writeTt2000
@@ -206,19 +194,27 @@ module _ (s : List ℕ) (good : isGood s ≡ true) where
         clear : isUtcTime (leaps s) f ≡ true → exists ProlepticGregorian (dateOfUtc f) ≡ true → ImpossibleUtc s f → ⊥
         clear h g = fine (both (isUtcTime (leaps s) f) (isPossible (f .month) (f .day)) h (exists-possible ProlepticGregorian (dateOfUtc f) g))
 
+        -- in 1972 or later only 5 is left
+        from-1972 : isUtcTime (leaps s) f ≡ true → exists ProlepticGregorian (dateOfUtc f) ≡ true → earlier (dateOfUtc f) (date (pos 1972) 1 1) ≡ false → (n : ℕ) → uppinaloWriteTt2000 s f .number ≡ n → n ≤ 5 → (n ≡ 4 → ⊥)
+            → (uppinaloWriteTt2000 s f .number ≡ 5 → (t : ℤ) → SFits w64 t → uppinaloReadTt2000 s t ≡ utcGiven f → ⊥) → (((t : ℤ) → SFits w64 t → uppinaloReadTt2000 s t ≡ utcGiven f → ⊥) → uppinaloWriteTt2000 s f .number ≡ 5) → ((n ≡ 5 → ⊥) → n ≡ 0) → UtcRefused s f (uppinaloWriteTt2000 s f .number)
+        from-1972 h g b n k low four unread-5 five zero-else =
+            record {
+              impossible = ((λ j. absurd (four (sym k ∙ j))), λ i. absurd (clear h g i));
+              missing = ((λ j. absurd (omega (arith, k, j))), λ w. absurd (true≢false (sym g ∙ w .1)));
+              early = ((λ j. absurd (omega (arith, k, j))), λ w. absurd (true≢false (sym (w .2) ∙ b)));
+              past = ((λ j. (clear h g, g, b, unread-5 j)), λ w. five (w .3));
+              written = λ _ _ _ no. k ∙ zero-else (λ e. no (k ∙ e));
+            }
+
         is-past : isUtcTime (leaps s) f ≡ true → exists ProlepticGregorian (dateOfUtc f) ≡ true → earlier (dateOfUtc f) (date (pos 1972) 1 1) ≡ false → Tt2000Answer.Refused OutOfRange ≡ writeTt2000 s f → UtcRefused s f (uppinaloWriteTt2000 s f .number)
-        is-past h g b e =
-            let k = number-of e in
-            record { impossible = ((λ j. absurd (omega (arith, k, j))), λ i. absurd (clear h g i)); missing = ((λ j. absurd (omega (arith, k, j))), λ w. absurd (true≢false (sym g ∙ w .1))); early = ((λ j. absurd (omega (arith, k, j))), λ w. absurd (true≢false (sym (w .2) ∙ b))); past = ((λ _. (clear h g, g, b, unread (sym e))), λ _. k); written = λ _ _ _ no. absurd (no k) }
+        is-past h g b e = from-1972 h g b 5 (number-of e) (omega arith) (λ j. omega arith) (λ _. unread (sym e)) (λ _. number-of e) (λ no. absurd (no refl))
 
         is-given : (z : ℤ) → isUtcTime (leaps s) f ≡ true → exists ProlepticGregorian (dateOfUtc f) ≡ true → earlier (dateOfUtc f) (date (pos 1972) 1 1) ≡ false → Tt2000Answer.Is z ≡ writeTt2000 s f → UtcRefused s f (uppinaloWriteTt2000 s f .number)
-        is-given z h g b e =
-            let k = number-of e in
-            record { impossible = ((λ j. absurd (omega (arith, k, j))), λ i. absurd (clear h g i)); missing = ((λ j. absurd (omega (arith, k, j))), λ w. absurd (true≢false (sym g ∙ w .1))); early = ((λ j. absurd (omega (arith, k, j))), λ w. absurd (true≢false (sym (w .2) ∙ b))); past = ((λ j. absurd (omega (arith, k, j))), λ w. absurd (w .3 z (Theorems.written-fits s good f z (sym e)) (ap ofUtc (Theorems.read-undoes-write s good f z (sym e))))); written = λ _ _ _ _. k }
+        is-given z h g b e = from-1972 h g b 0 (number-of e) (omega arith) (λ j. omega arith) (λ j. absurd (omega (arith, number-of e, j))) (λ w. absurd (w z (Theorems.written-fits s good f z (sym e)) (ap ofUtc (Theorems.read-undoes-write s good f z (sym e))))) (λ _. refl)
 
-        held : {z : ℤ} {a : Tt2000Answer} → Given s good f z a → a ≡ writeTt2000 s f → isUtcTime (leaps s) f ≡ true → exists ProlepticGregorian (dateOfUtc f) ≡ true → earlier (dateOfUtc f) (date (pos 1972) 1 1) ≡ false → UtcRefused s f (uppinaloWriteTt2000 s f .number)
-        held {z} (given fits) e h g b = is-given z h g b e
-        held past e h g b = is-past h g b e
+        held : {z : ℤ} {a : Tt2000Answer} → Limited z a → a ≡ writeTt2000 s f → isUtcTime (leaps s) f ≡ true → exists ProlepticGregorian (dateOfUtc f) ≡ true → earlier (dateOfUtc f) (date (pos 1972) 1 1) ≡ false → UtcRefused s f (uppinaloWriteTt2000 s f .number)
+        held {z} (in-bits i) e h g b = is-given z h g b e
+        held too-great e h g b = is-past h g b e
 
         go : {a : Tt2000Answer} → Outcome s good f a → a ≡ writeTt2000 s f → UtcRefused s f (uppinaloWriteTt2000 s f .number)
         go (impossible g) e =
@@ -231,7 +227,7 @@ module _ (s : List ℕ) (good : isGood s ≡ true) where
             let k = number-of e in
             record { impossible = ((λ j. absurd (omega (arith, k, j))), λ i. absurd (clear h g i)); missing = ((λ j. absurd (omega (arith, k, j))), λ w. absurd (true≢false (sym g ∙ w .1))); early = ((λ _. (clear h g, g, b)), λ _. k); past = ((λ j. absurd (omega (arith, k, j))), λ w. absurd (true≢false (sym b ∙ w .2))); written = λ _ _ no _. absurd (no k) }
         go (far h g b y) e = is-past h g b e
-        go (on d j h g b low dated k) e = held (by-bits s good f (numberOn s good d (daySecond f) j (f .nanosecond))) e h g b
+        go (on d j h g b low dated k) e = held (limits (numberOn s good d (daySecond f) j (f .nanosecond))) e h g b
 
   -- ---- all of them
 
