@@ -34,6 +34,7 @@ PLACE(uppinalo_axis_answer, axis, 8);
 SIZE(uppinalo_reading, 24);
 PLACE(uppinalo_reading, instant, 8);
 PLACE(uppinalo_reading, exact, 16);
+PLACE(uppinalo_reading, days_back, 20);
 SIZE(uppinalo_offset_answer, 16);
 PLACE(uppinalo_offset_answer, offset, 8);
 SIZE(uppinalo_fields_answer, 40);

@@ -57,7 +57,9 @@ typedef struct { int64_t year; uint32_t month, day, hour, minute, second, nanose
 typedef struct { uint32_t count, ended; uint8_t bytes[128]; } uppinalo_units_state;
 
 typedef struct { uint32_t number; uppinalo_axis axis; } uppinalo_axis_answer;
-typedef struct { uint32_t number; int64_t instant; bool exact; } uppinalo_reading;
+/* `days_back`: where calendar months or years lead to a month that lacks the reference's day, the day is stepped back until it exists, by so
+ * many days: at most 3, in October 1582 of standard at most 10. It is 0 in fixed mode, in shorter periods and for ISO texts. */
+typedef struct { uint32_t number; int64_t instant; bool exact; uint32_t days_back; } uppinalo_reading;
 typedef struct { uint32_t number; int64_t offset; } uppinalo_offset_answer;
 typedef struct { uint32_t number; uppinalo_fields fields; } uppinalo_fields_answer;
 typedef struct { uint32_t number; uppinalo_date date; } uppinalo_date_answer;

@@ -8,7 +8,7 @@ const MEASUREMENTS: [(&str, fn()); 14] = [
     ("dates", calendars::dates),
     ("days", calendars::days),
     ("fields", calendars::fields),
-    ("double", offsets::reading),
+    ("reading", offsets::reading),
     ("doubles", runs::doubles),
     ("wholes", runs::wholes),
     ("iso", texts::iso),

@@ -2,7 +2,9 @@
 
 use answers::*;
 use bench::plain;
-use samples::{Random, borders, damage, datetime64, fragments, identifiers, instants, leap_seconds, tt2000};
+use samples::{
+    Random, borders, calendar_steps, damage, datetime64, fragments, identifiers, instants, leap_seconds, tt2000,
+};
 use second::boundary;
 use std::fmt::Debug;
 
@@ -79,15 +81,32 @@ fn dates_at_borders() {
     }
 }
 
+fn read_whole(axis: Axis, offset: i64) {
+    assert_eq!(plain::wholes::read_whole(axis, offset), boundary::read_whole(axis, offset), "{axis:?} {offset}");
+}
+
+fn read_double(axis: Axis, x: f64) {
+    assert_eq!(plain::doubles::read_double(axis, x), boundary::read_double(axis, x), "{axis:?} {x:e}");
+}
+
 #[test]
 fn offsets() {
     let mut random = Random::seeded(13);
     for _ in 0..COUNT {
         let axis = axis(&mut random);
-        let offset = random.bits() as i64 >> random.below(64);
-        assert_eq!(plain::wholes::read_whole(axis, offset), boundary::read_whole(axis, offset), "{axis:?} {offset}");
-        let x = double(&mut random);
-        assert_eq!(plain::doubles::read_double(axis, x), boundary::read_double(axis, x), "{axis:?} {x:e}");
+        read_whole(axis, random.bits() as i64 >> random.below(64));
+        read_double(axis, double(&mut random));
+    }
+}
+
+/// Months that have the reference's day, and months that lack it.
+#[test]
+fn steps_from_every_day() {
+    for (calendar, year) in (0..6).flat_map(|calendar| calendar_steps::YEARS.map(|year| (calendar, year))) {
+        for (axis, offset) in calendar_steps::from_days_of_year(calendar, year, 0) {
+            read_whole(axis, offset);
+            read_double(axis, offset as f64);
+        }
     }
 }
 

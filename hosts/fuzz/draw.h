@@ -49,6 +49,16 @@ static int64_t instant(void) {
     }
 }
 
+/* Calendar months from a day about October 1582, or calendar years from one some years before or after. */
+static void step_near_cutover(uppinalo_axis *drawn) {
+    const int64_t cutover = -141427;
+    int64_t years = below(2) ? (int64_t)below(5) - 2 : 0;
+    drawn->calendar = below(2) ? UPPINALO_STANDARD : drawn->calendar;
+    drawn->period = years != 0 ? UPPINALO_YEAR : UPPINALO_MONTH;
+    drawn->mode = UPPINALO_CALENDAR;
+    drawn->reference = (cutover + 365 * years + (int64_t)below(100) - 50) * 86400000000 + (int64_t)below(86400000000);
+}
+
 /* The bytes between the fields are drawn too. */
 static uppinalo_axis axis(void) {
     uppinalo_axis drawn;
@@ -59,7 +69,17 @@ static uppinalo_axis axis(void) {
     drawn.reference = instant();
     if (below(2))
         drawn.reference -= drawn.reference % 86400000000;
+    if (below(5) == 0)
+        step_near_cutover(&drawn);
     return drawn;
+}
+
+static int64_t whole_offset(void) {
+    switch (below(3)) {
+    case 0: return number();
+    case 1: return (int64_t)below(7) - 3;
+    default: return (int64_t)below(20000) - 10000;
+    }
 }
 
 static double double_offset(void) {
@@ -69,13 +89,11 @@ static double double_offset(void) {
     case 0: drawn |= below(4) == 0 ? 0x7ff0000000000000u : 0; memcpy(&x, &drawn, sizeof x); return x;
     case 1: return (double)number();
     case 2: return (double)number() / 128.0;
-    case 3: return (double)((int64_t)below(200000) - 100000);
+    case 3: return (double)whole_offset();
     case 4: return ((double)below(1u << 30) - 536870912.0) / 1e4;
     default: return ((double)below(1u << 20) - 524288.0) * 1e-3 + 1e-9 * (double)below(1000);
     }
 }
-
-static int64_t whole_offset(void) { return below(3) == 0 ? number() : (int64_t)below(20000) - 10000; }
 
 static uint32_t field(uint32_t least, uint32_t most) {
     return below(30) == 0 ? (below(2) ? most + 1 : (uint32_t)bits()) : least + (uint32_t)below(most - least + 1);

@@ -6,6 +6,7 @@
  * the input of one call, most often makes it twice, and tests that
  *   - the answers are the same, the number is one of the table, and a refusal has zeros beside its number;
  *   - 4 and 13 are the answers to the fields that have them, and to no others;
+ *   - calendar months and years step a day back by the reference's day less the given one, within the bounds, and nothing else steps one back;
  *   - what is lent to be read stays, what is lent to be written is written only where the answer says, and nothing beside it;
  *   - other calls agree: an offset, a record or a TT2000 read is written back, an element of a run reads as it does alone, a text
  *     is read back, or in fragments as at once.
@@ -60,15 +61,40 @@ static int is_in_range(uint32_t calendar, int64_t of) {
     return !uppinalo_fields_of || uppinalo_fields_of(calendar, of).number == 0;
 }
 
+static int is_same_reading(const uppinalo_reading *a, const uppinalo_reading *b) {
+    return a->number == b->number && a->instant == b->instant && a->exact == b->exact && a->days_back == b->days_back;
+}
+
+/* How many readings were stepped back, and of these in the month of the cutover. */
+static unsigned long long stepped_back, stepped_back_at_cutover;
+
+/* That the days stepped back are the reference's day less the given one, where calendar months or years are read, and else 0. */
+static void require_days_back(const uppinalo_reading *answer, const uppinalo_axis *on) {
+    if (answer->number != 0 || on->mode != UPPINALO_CALENDAR || on->period < UPPINALO_MONTH) {
+        require(answer->days_back == 0, "days stepped back by no calendar month or year");
+        return;
+    }
+    if (!uppinalo_fields_of)
+        return;
+    uppinalo_fields asked = uppinalo_fields_of(on->calendar, on->reference).fields;
+    uppinalo_fields given = uppinalo_fields_of(on->calendar, answer->instant).fields;
+    int is_cutover = on->calendar == UPPINALO_STANDARD && given.year == 1582 && given.month == 10;
+    require(asked.day == given.day + answer->days_back, "days stepped back that are not the asked day less the given one");
+    require(answer->days_back <= (is_cutover ? 10u : 3u), "more days stepped back than there can be");
+    stepped_back += answer->days_back > 0;
+    stepped_back_at_cutover += answer->days_back > 0 && is_cutover;
+}
+
 /* An answer's bool as the byte that it is. */
-static void require_reading(const uppinalo_reading *answer, uint32_t calendar) {
+static void require_reading(const uppinalo_reading *answer, const uppinalo_axis *on) {
     uint8_t exact;
     memcpy(&exact, (const char *)answer + offsetof(uppinalo_reading, exact), 1);
     require(exact <= 1, "a bool that is neither 0 nor 1");
     if (answer->number != 0)
         require(answer->instant == 0 && exact == 0, "a refused reading with an instant");
     else
-        require(is_in_range(calendar, answer->instant), "an instant past the range");
+        require(is_in_range(on->calendar, answer->instant), "an instant past the range");
+    require_days_back(answer, on);
 }
 
 static void require_axis(const uppinalo_axis_answer *answer) {
@@ -182,10 +208,11 @@ static void read_iso(void) {
     const uint8_t *first = lend(&names, name_bytes, n), *second = lend(&texts, text_bytes, m);
     uppinalo_reading answer = uppinalo_read_iso(first, n, second, m), again = uppinalo_read_iso(first, n, second, m);
     count(answer.number);
-    require(answer.number == again.number && answer.instant == again.instant, "two answers");
+    require(is_same_reading(&answer, &again), "two answers");
     require(is_kept_after(&names, 0) && is_kept_after(&texts, 0), "a text is changed");
     require(m <= 128 || answer.number == 1, "a text over 128 bytes is not refused with 1");
     require(answer.number == 0 ? answer.exact : !answer.exact && answer.instant == 0, "exact, and only on success");
+    require(answer.days_back == 0, "a text's day is stepped back");
 }
 
 static void write_iso(void) {
@@ -266,8 +293,8 @@ static void read_whole(void) {
     int64_t offset = whole_offset();
     uppinalo_reading answer = uppinalo_read_whole(on, offset), again = uppinalo_read_whole(on, offset);
     count(answer.number);
-    require(answer.number == again.number && answer.instant == again.instant, "two answers");
-    require_reading(&answer, on.calendar);
+    require(is_same_reading(&answer, &again), "two answers");
+    require_reading(&answer, &on);
     require(answer.number != 0 || answer.exact, "a whole offset that is not exact");
     if (uppinalo_write_instant && answer.number == 0) {
         uppinalo_offset_answer back = uppinalo_write_instant(on, answer.instant);
@@ -280,12 +307,11 @@ static void read_double(void) {
     double offset = double_offset();
     uppinalo_reading answer = uppinalo_read_double(on, offset), again = uppinalo_read_double(on, offset);
     count(answer.number);
-    require(answer.number == again.number && answer.instant == again.instant, "two answers");
-    require_reading(&answer, on.calendar);
+    require(is_same_reading(&answer, &again), "two answers");
+    require_reading(&answer, &on);
     if (uppinalo_read_whole && offset > -9e15 && offset < 9e15 && (double)(int64_t)offset == offset) {
         uppinalo_reading whole = uppinalo_read_whole(on, (int64_t)offset);
-        require(whole.number == answer.number && whole.instant == answer.instant && whole.exact == answer.exact,
-                "a whole double reads as the whole number does not");
+        require(is_same_reading(&whole, &answer), "a whole double reads as the whole number does not");
     }
 }
 
@@ -353,6 +379,7 @@ static size_t length(void) { return (size_t)below(below(2) ? 6 : MOST_OFFSETS); 
             uint32_t expected = (answer).number != 0 && i + 1 == last ? (answer).number : 0; \
             require(alone.number == expected, "an offset is refused otherwise alone"); \
             require((answer).number != 0 || alone.instant == (written)[i], "an offset reads otherwise alone"); \
+            require_reading(&alone, &(on)); \
         } \
     } while (0)
 
@@ -587,6 +614,7 @@ int main(int argc, char **argv) {
         turn++;
     }
     print_counts();
+    printf("fuzz: %llu readings were stepped back, %llu of them in October 1582\n", stepped_back, stepped_back_at_cutover);
     printf("fuzz: %llu rounds from seed %s: ok\n", rounds, argv[2]);
     return 0;
 }

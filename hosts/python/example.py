@@ -11,3 +11,5 @@ try:
     axis.write(Fields(1850, 3, 1, hour=12))
 except Refused as refused:
     print(f"1850-03-01, noon: refused {refused.number}")
+reading = Axis("calendar months since 1930-01-31").read(1)
+print(f"1930-01-31 and a month: {reading.isoformat()}, {reading.days_back} days back")

@@ -40,7 +40,7 @@ fn read_fixed(axis: Axis, x: f64) -> Reading {
     };
     match axis.reference.checked_add(if is_negative { -size } else { size }) {
         Some(instant) if clock::is_in_range(axis.calendar, instant) => {
-            Reading { number: 0, instant, exact: exact as u8 }
+            Reading { number: 0, instant, exact: exact as u8, days_back: 0 }
         }
         _ => refused,
     }

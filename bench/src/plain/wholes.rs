@@ -23,15 +23,15 @@ fn day_at_most(calendar: u32, year: i64, month: u32, day: u32) -> u32 {
     if days::is_dropped(calendar, Date { year, month, day }) { 4 } else { day }
 }
 
-/// The instant of some fields in another month, where its year is in range.
-pub fn in_month(calendar: u32, fields: Fields, months: i64) -> Option<i64> {
+/// The instant of some fields in another month, where its year is in range, and how many days back their day is there.
+pub fn in_month(calendar: u32, fields: Fields, months: i64) -> Option<(i64, u32)> {
     let year = year_of_row(calendar, months.div_euclid(12));
     if !(-9999..=9999).contains(&year) {
         return None;
     }
     let month = months.rem_euclid(12) as u32 + 1;
     let day = day_at_most(calendar, year, month, fields.day);
-    Some(clock::instant(calendar, Fields { year, month, day, ..fields }))
+    Some((clock::instant(calendar, Fields { year, month, day, ..fields }), fields.day - day))
 }
 
 /// An axis, and what of its reference every step needs.
@@ -52,24 +52,24 @@ impl Start {
         Start { axis, fields, months: month_count(axis.calendar, fields) }
     }
 
-    fn calendar_step(&self, offset: i64) -> Option<i64> {
+    fn calendar_step(&self, offset: i64) -> Option<(i64, u32)> {
         let steps = if self.axis.period == period::YEAR { offset.checked_mul(12)? } else { offset };
         in_month(self.axis.calendar, self.fields, self.months.checked_add(steps)?)
     }
 
-    /// The instant of an offset, where it is in range.
-    fn instant(&self, offset: i64) -> Option<i64> {
+    /// The instant of an offset, where it is in range, and the days back.
+    fn reached(&self, offset: i64) -> Option<(i64, u32)> {
         let axis = self.axis;
         if period::is_calendar_step(axis) {
             return self.calendar_step(offset);
         }
         let instant = offset.checked_mul(period::microseconds(axis.period))?.checked_add(axis.reference)?;
-        clock::is_in_range(axis.calendar, instant).then_some(instant)
+        clock::is_in_range(axis.calendar, instant).then_some((instant, 0))
     }
 
     pub fn read(&self, offset: i64) -> Reading {
-        match self.instant(offset) {
-            Some(instant) => Reading { number: 0, instant, exact: 1 },
+        match self.reached(offset) {
+            Some((instant, days_back)) => Reading { number: 0, instant, exact: 1, days_back },
             None => Reading { number: 5, ..Default::default() },
         }
     }

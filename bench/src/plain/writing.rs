@@ -14,7 +14,7 @@ fn fixed(axis: Axis, instant: i64) -> Option<i64> {
 fn calendar_step(axis: Axis, instant: i64) -> Option<i64> {
     let from = clock::fields(axis.calendar, axis.reference);
     let to = wholes::month_count(axis.calendar, clock::fields(axis.calendar, instant));
-    if wholes::in_month(axis.calendar, from, to) != Some(instant) {
+    if wholes::in_month(axis.calendar, from, to).is_none_or(|(reached, _)| reached != instant) {
         return None;
     }
     let months = to - wholes::month_count(axis.calendar, from);

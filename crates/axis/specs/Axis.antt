@@ -2,6 +2,7 @@
 -- Fixed mode is that of specs/Fixed.antt of crate `fixed_axis`; months and years in calendar mode are those of specs/Steps.antt of crate
 -- `calendar_axis`. Both speak of a reference in the range, which is tested here and nowhere else.
 use mathlib.Core.Bool.{cond}
+use Prim.Native.Nat.{ℕ}
 use lib.IntN.{ℤ}
 use lib.Ieee.{Float}
 use Rattle.refusal.specs.declared.Refusal.{Refusal}
@@ -21,7 +22,7 @@ use Rattle.double.specs.Whole.{wholeOf}
 use Rattle.double.specs.declared.whole.Whole.{Whole}
 use Rattle.step.specs.declared.Part.{Part}
 use Rattle.fixed_axis.specs.Fixed.{readWhole, readDouble, writeInstant}
-use Rattle.calendar_axis.specs.Steps.{readSteps, writeSteps}
+use Rattle.calendar_axis.specs.Steps.{readSteps, backSteps, writeSteps}
 use Rattle.axis.specs.declared.AxisCheck.{AxisCheck}
 use Rattle.axis.specs.declared.Step.{Step}
 
@@ -96,6 +97,35 @@ readDoubleOn a x = onGood (axisCheck a) Reading.Refused (doubleOn a x)
 unfoldable pub readOffset : Axis → Offset → Reading
 readOffset a (Offset.Whole n) = readWholeOn a n
 readOffset a (Offset.Double x) = readDoubleOn a x
+
+-- ---- how far the day of the month is stepped back: document 02, CR 7. Only months and years in calendar mode move it
+
+-- by a whole offset
+abbrev pub backBy : Step → Calendar → ℤ → ℤ → ℕ
+backBy Step.Time c R n = 0
+backBy (Step.Date part) c R n = backSteps part c R n
+
+abbrev pub wholeBack : Axis → ℤ → ℕ
+wholeBack a n = backBy (stepOn a) (a .calendar) (a .reference) n
+
+-- by a double: in calendar mode, by the whole offset that it is
+abbrev pub asWholeBack : Whole → (ℤ → ℕ) → ℕ
+asWholeBack (Whole.Is n) back = back n
+asWholeBack (Whole.Refused r) back = 0
+
+abbrev pub byWholeBack : (ℤ → ℕ) → Float → ℕ
+byWholeBack back x = asWholeBack (wholeOf x) back
+
+abbrev pub doubleBackIn : Mode → Axis → Float → ℕ
+doubleBackIn Mode.Fixed a x = 0
+doubleBackIn Mode.Calendar a x = byWholeBack (wholeBack a) x
+
+abbrev pub doubleBack : Axis → Float → ℕ
+doubleBack a x = doubleBackIn (a .mode) a x
+
+abbrev pub offsetBack : Axis → Offset → ℕ
+offsetBack a (Offset.Whole n) = wholeBack a n
+offsetBack a (Offset.Double x) = doubleBack a x
 
 -- ---- writing an instant, or fields
 

@@ -1,2 +1,3 @@
 pub mod Axis
 pub mod Demands
+pub mod MovedBack

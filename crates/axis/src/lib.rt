@@ -3,11 +3,13 @@
 ghost use mathlib.Core.Path.{_≡_};
 ghost use mathlib.Core.Bool.{true};
 ghost use Rattle.instant.specs.Instant.{inRange};
-ghost use Rattle.axis.specs.Axis.{axisCheck, stepOn, wholeOn, byWhole, doubleOn, offsetOn, readWholeOn, readDoubleOn, readOffset, writeInstantOn, writeFieldsOn};
+ghost use Rattle.axis_types.specs.Reading.{withDaysBack};
+ghost use Rattle.axis.specs.Axis.{axisCheck, stepOn, wholeOn, wholeBack, byWhole, byWholeBack, doubleOn, doubleBack, offsetBack, offsetOn, readWholeOn, readDoubleOn, readOffset, writeInstantOn, writeFieldsOn};
 use axis_types::Axis;
 use axis_types::Mode;
 use axis_types::Offset;
 use axis_types::OffsetAnswer;
+use axis_types::OffsetReading;
 use axis_types::Period;
 use axis_types::Reading;
 use double::whole::Whole;
@@ -60,38 +62,55 @@ pub fn step_on(axis: Axis) -> Step
 
 // ---- on a good axis
 
-fn read_whole_on(axis: Axis, n: i64) -> Reading
+fn read_whole_on(axis: Axis, n: i64) -> OffsetReading
     requires { ⌜ inRange (axis .calendar) (axis .reference) ≡ true ⌝ }
-    ensures { λ r. ⌜ r ≡ wholeOn axis n ⌝ }
+    ensures { λ r. ⌜ r ≡ withDaysBack (wholeOn axis n) (wholeBack axis n) ⌝ }
 {
     let c = axis.calendar;
     let p = axis.period;
     match step_on(axis) {
-        Step::Time => return fixed_axis::read_whole(c, p, axis.reference, n),
+        Step::Time => return axis_types::unmoved(fixed_axis::read_whole(c, p, axis.reference, n)),
         Step::Date(part) => return calendar_axis::read_whole(c, part, axis.reference, n),
     }
 }
 
-// A double in calendar mode: the whole offset that it is.
-fn read_as_whole(axis: Axis, x: f64) -> Reading
-    requires { ⌜ inRange (axis .calendar) (axis .reference) ≡ true ⌝ }
-    ensures { λ r. ⌜ r ≡ byWhole (wholeOn axis) x ⌝ }
+// The same answer, field by field: one that is copied whole goes through memory, with the bytes between its fields.
+fn by_fields(a: OffsetReading) -> OffsetReading
+    ensures { λ r. ⌜ r ≡ a ⌝ }
 {
-    match double::whole::whole_of(x) {
-        Whole::Refused(r) => return Reading::Refused(r),
-        Whole::Is(n) => return read_whole_on(axis, n),
+    let reading = a.reading;
+    match reading {
+        Reading::At(t, exact) => return OffsetReading {
+            reading: Reading::At(t, exact),
+            days_back: a.days_back,
+        },
+        Reading::Refused(r) => return OffsetReading {
+            reading: Reading::Refused(r),
+            days_back: a.days_back,
+        },
     }
 }
 
-fn read_double_on(axis: Axis, x: f64) -> Reading
+// A double in calendar mode: the whole offset that it is, read as any other. That tests the axis once more, and is quicker than a call that does not.
+fn read_as_whole(axis: Axis, x: f64) -> OffsetReading
     requires { ⌜ inRange (axis .calendar) (axis .reference) ≡ true ⌝ }
-    ensures { λ r. ⌜ r ≡ doubleOn axis x ⌝ }
+    ensures { λ r. ⌜ r ≡ withDaysBack (byWhole (wholeOn axis) x) (byWholeBack (wholeBack axis) x) ⌝ }
+{
+    match double::whole::whole_of(x) {
+        Whole::Refused(r) => return axis_types::unmoved(Reading::Refused(r)),
+        Whole::Is(n) => return by_fields(read_whole(axis, n)),
+    }
+}
+
+fn read_double_on(axis: Axis, x: f64) -> OffsetReading
+    requires { ⌜ inRange (axis .calendar) (axis .reference) ≡ true ⌝ }
+    ensures { λ r. ⌜ r ≡ withDaysBack (doubleOn axis x) (doubleBack axis x) ⌝ }
 {
     let c = axis.calendar;
     let p = axis.period;
     let mode = axis.mode;
     match mode {
-        Mode::Fixed => return fixed_axis::read_double(c, p, axis.reference, x),
+        Mode::Fixed => return axis_types::unmoved(fixed_axis::read_double(c, p, axis.reference, x)),
         Mode::Calendar => return read_as_whole(axis, x),
     }
 }
@@ -112,28 +131,28 @@ fn write_on(axis: Axis, t: i64) -> OffsetAnswer
 // ---- on any axis
 
 // A whole offset; OutOfRange for the reference, then for the instant.
-pub fn read_whole(axis: Axis, n: i64) -> Reading
-    ensures { λ r. ⌜ r ≡ readWholeOn axis n ⌝ }
+pub fn read_whole(axis: Axis, n: i64) -> OffsetReading
+    ensures { λ r. ⌜ r ≡ withDaysBack (readWholeOn axis n) (wholeBack axis n) ⌝ }
 {
     match check_axis(axis) {
-        AxisCheck::Refused(r) => return Reading::Refused(r),
+        AxisCheck::Refused(r) => return axis_types::unmoved(Reading::Refused(r)),
         AxisCheck::Good => return read_whole_on(axis, n),
     }
 }
 
 // A double; OutOfRange for the reference, then NotFinite, in calendar mode Inexact where it is not whole, then OutOfRange.
-pub fn read_double(axis: Axis, x: f64) -> Reading
-    ensures { λ r. ⌜ r ≡ readDoubleOn axis x ⌝ }
+pub fn read_double(axis: Axis, x: f64) -> OffsetReading
+    ensures { λ r. ⌜ r ≡ withDaysBack (readDoubleOn axis x) (doubleBack axis x) ⌝ }
 {
     match check_axis(axis) {
-        AxisCheck::Refused(r) => return Reading::Refused(r),
+        AxisCheck::Refused(r) => return axis_types::unmoved(Reading::Refused(r)),
         AxisCheck::Good => return read_double_on(axis, x),
     }
 }
 
 // An offset, whole or double.
-pub fn read(axis: Axis, offset: Offset) -> Reading
-    ensures { λ r. ⌜ r ≡ readOffset axis offset ⌝ }
+pub fn read(axis: Axis, offset: Offset) -> OffsetReading
+    ensures { λ r. ⌜ r ≡ withDaysBack (readOffset axis offset) (offsetBack axis offset) ⌝ }
 {
     match offset {
         Offset::Whole(n) => return read_whole(axis, n),

@@ -2,6 +2,7 @@
 // `microseconds` is the length of a period in fixed mode.
 ghost use mathlib.Core.Path.{_≡_};
 ghost use Rattle.axis_types.specs.Lengths.{lengthOf};
+ghost use Rattle.axis_types.specs.Reading.{withDaysBack};
 use calendar::Calendar;
 use refusal::Refusal;
 
@@ -39,10 +40,26 @@ pub enum Reading {
     Refused(Refusal),
 }
 
+// What an offset is read as when it is read alone: the reading, and the days that the day of the month was stepped back, 0 beside a refusal.
+pub struct OffsetReading {
+    pub reading: Reading,
+    pub days_back: u32,
+}
+
 // The whole offset that an instant is written as, or a refusal.
 pub enum OffsetAnswer {
     Is(i64),
     Refused(Refusal),
+}
+
+// A reading whose day is the one asked for, or a refusal.
+pub fn unmoved(reading: Reading) -> OffsetReading
+    ensures { λ r. ⌜ r ≡ withDaysBack reading 0 ⌝ }
+{
+    OffsetReading {
+        reading,
+        days_back: 0,
+    }
 }
 
 pub fn microseconds(p: Period) -> u64

@@ -2,7 +2,7 @@
 -- day before the cutover.
 use mathlib.Core.Path.{_≡_, refl, sym, ap, _∙_, subst}
 use mathlib.Core.Bool.{Bool, true, false, true≢false}
-use Prim.Native.Nat.{ℕ, _<_, _≤_}
+use Prim.Native.Nat.{ℕ, _-_, _<_, _≤_}
 use native.Mathlib.Omega.{arith}
 use native.Mathlib.Decide.{decLe}
 use lib.IntN.{ℤ, pos}
@@ -180,6 +180,15 @@ module _ (r : CalendarRow) (j : Junction r) (o : OneMonth r) (y : ℤ) (m : ℕ)
               ]
             ]
 
+    -- the first day of the late part exists, so that it is not passed
+    pub first-not-passed : (b : Below r y m d) → r .first .year ≡ y → r .first .month ≡ m → b .day < r .first .day → d < r .first .day
+    first-not-passed b e f g =
+        let is : date y m (r .first .day) ≡ r .first = date-eq (sym e) (sym f) refl in
+        elim (decLe (r .first .day) d) [
+          | yes p ↦ absurd (true≢false (sym (ap (existsBy r) is ∙ exists-on r j (r .first) (on-late (j .first) (not-before (r .first)))) ∙ b .none (r .first .day) g p))
+          | no p ↦ omega arith
+        ]
+
 -- ---- the calendars
 
 in-october : (a b : ℕ) (x : Date) → Before (date (pos 1582) 10 a) x → Before x (date (pos 1582) 10 b) → (pos 1582 ≡ x .year) × (10 ≡ x .month)
@@ -204,3 +213,28 @@ module _ (c : Calendar) (y : ℤ) (m : ℕ) (h : Month (hasYearZero c) y m) wher
   pub below-day : (d : ℕ) → 1 ≤ d → exists c (date y m d) ≡ false → Below (rowOf c) y m d
   unfolding exists
   below-day = day-below (rowOf c) (joint c) (one-month c) y m h
+
+-- how many days k the next that exists lies below: up to 3, or in October 1582 of `standard` up to the ten that were dropped
+pub data DaysBelow (c : Calendar) (y : ℤ) (m k : ℕ) : Type 0 where
+  few : k ≤ 3 → DaysBelow c y m k
+  dropped-ten : c ≡ Standard → y ≡ pos 1582 → m ≡ 10 → k ≤ 10 → DaysBelow c y m k
+
+module _ (y : ℤ) (m d : ℕ) (low : 1 ≤ d) (high : d ≤ 31) where
+  until : (c : Calendar) → Month (hasYearZero c) y m → (b : Below (rowOf c) y m d) → rowOf c .first .year ≡ y → rowOf c .first .month ≡ m → b .day < rowOf c .first .day → d < rowOf c .first .day
+  until c h b = first-not-passed (rowOf c) (joint c) (one-month c) y m h d low b
+
+  -- only `standard` has days between the last of its early part and the first of its late one
+  after-last : (c : Calendar) → Month (hasYearZero c) y m → (b : Below (rowOf c) y m d) → rowOf c .last .year ≡ y → rowOf c .last .month ≡ m → rowOf c .last .day ≡ b .day → DaysBelow c y m (d - b .day)
+  after-last Standard h b e f g = dropped-ten refl (sym e) (sym f) (omega (arith, until Standard h b e f (omega arith)))
+  after-last ProlepticGregorian h b e f g = absurd (omega (arith, b .less, until ProlepticGregorian h b e f (omega arith)))
+  after-last Julian h b e f g = absurd (omega (arith, b .less, until Julian h b e f (omega arith)))
+  after-last NoLeap h b e f g = absurd (omega (arith, b .less, until NoLeap h b e f (omega arith)))
+  after-last AllLeap h b e f g = absurd (omega (arith, b .less, until AllLeap h b e f (omega arith)))
+  after-last Day360 h b e f g = absurd (omega (arith, b .less, until Day360 h b e f (omega arith)))
+
+  pub days-below : (c : Calendar) → Month (hasYearZero c) y m → (b : Below (rowOf c) y m d) → DaysBelow c y m (d - b .day)
+  days-below c h b = by-reason (b .day) (b .why) refl
+    where
+      by-reason : (k : ℕ) → Reason (rowOf c) y m k → k ≡ b .day → DaysBelow c y m (d - b .day)
+      by-reason k (month-end p) e = few (omega (arith, long p y m (h .low) (h .high)))
+      by-reason k (last-kept f g) e = after-last c h b f g e

@@ -12,7 +12,7 @@ use Rattle.calendar.specs.declared.Calendar.{Calendar}
 use Rattle.calendar.specs.declared.Date.{Date}
 use Rattle.calendar.specs.declared.DayAnswer.{DayAnswer}
 use Rattle.instant.specs.Instant.{dayOf, timeOf, instantAt}
-use Rattle.step.specs.Steps.{dateAfter}
+use Rattle.step.specs.Steps.{dateAfter, daysBack}
 use Rattle.step.specs.Answers.{stepsBetween}
 use Rattle.step.specs.declared.Part.{Part}
 use Rattle.step.specs.declared.StepAnswer.{StepAnswer}
@@ -37,6 +37,10 @@ readFrom part c x s n = onDay (dayAnswer c (dateAfter part c n x)) s
 -- n steps from the reference R
 unfoldable pub readSteps : Part → Calendar → ℤ → ℤ → Reading
 readSteps part c R n = readFrom part c (dateAt c R) (timeOf R) n
+
+-- the days that the day of the month is stepped back by them
+abbrev pub backSteps : Part → Calendar → ℤ → ℤ → ℕ
+backSteps part c R n = daysBack part c n (dateAt c R)
 
 -- ---- writing
 

@@ -6,17 +6,19 @@ ghost use mathlib.Core.Bool.{true};
 ghost use Prim.Native.Nat.{_<_};
 ghost use Rattle.instant.specs.Instant.{dayLength, inRange};
 ghost use Rattle.step.specs.Closed.{YearOf};
-ghost use Rattle.axis_types.specs.Reading.{isRead};
+ghost use Rattle.step.specs.Steps.{daysBack};
+ghost use Rattle.axis_types.specs.Reading.{isRead, withDaysBack};
 ghost use Rattle.axis_types.specs.declared.Reading.{Reading};
-ghost use Rattle.calendar_axis.specs.Steps.{readFrom, readSteps, writeFrom, writeSteps};
+ghost use Rattle.calendar_axis.specs.Steps.{readFrom, readSteps, backSteps, writeFrom, writeSteps};
 ghost use Rattle.calendar_axis.specs.Start.{StartOf};
 use axis_types::OffsetAnswer;
+use axis_types::OffsetReading;
 use axis_types::Reading;
 use calendar::Calendar;
 use calendar::Date;
 use calendar::DateAnswer;
-use calendar::DayAnswer;
 use refusal::Refusal;
+use step::DayReached;
 use step::Part;
 use step::StepAnswer;
 
@@ -57,14 +59,17 @@ pub fn start_of(c: Calendar, reference: i64) -> Start
 }
 
 // A whole offset from a start; OutOfRange for the instant.
-pub fn read_from(c: Calendar, part: Part, s: Start, n: i64) -> Reading
+pub fn read_from(c: Calendar, part: Part, s: Start, n: i64) -> OffsetReading
     requires { ⌜ YearOf c (s .date) (s .year) × (s .time < dayLength) ⌝ }
-    ensures { λ r. ⌜ r ≡ readFrom part c (s .date) (s .time) n ⌝ }
+    ensures { λ r. ⌜ r ≡ withDaysBack (readFrom part c (s .date) (s .time) n) (daysBack part c n (s .date)) ⌝ }
 {
     let date = s.date;
     match step::day_reached(c, part, date, s.year, n) {
-        DayAnswer::Refused(r) => return Reading::Refused(r),
-        DayAnswer::Is(day) => return Reading::At(instant::instant_at(day, s.time), true),
+        DayReached::Refused(r) => return axis_types::unmoved(Reading::Refused(r)),
+        DayReached::Is(day, days_back) => {
+            let reading = Reading::At(instant::instant_at(day, s.time), true);
+            return OffsetReading { reading, days_back };
+        }
     }
 }
 
@@ -78,9 +83,9 @@ pub fn instant_after(c: Calendar, part: Part, s: Start, n: i64) -> i64
 }
 
 // A whole offset from a reference in the range; OutOfRange for the instant.
-pub fn read_whole(c: Calendar, part: Part, reference: i64, n: i64) -> Reading
+pub fn read_whole(c: Calendar, part: Part, reference: i64, n: i64) -> OffsetReading
     requires { ⌜ inRange c reference ≡ true ⌝ }
-    ensures { λ r. ⌜ r ≡ readSteps part c reference n ⌝ }
+    ensures { λ r. ⌜ r ≡ withDaysBack (readSteps part c reference n) (backSteps part c reference n) ⌝ }
 {
     read_from(c, part, start_of(c, reference), n)
 }

@@ -1,6 +1,6 @@
-// Runs the cases by hand of document 01, and some about the years of `julian` before year 1 and about dates that are refused, over the
-// library's calls. A line for each case: the calendar, the units text, the offset that is read or the date that is written, and the
-// answer. The stored output is written by hand from the documents. The cases of the first two groups are proved over the definitions too
+// Runs the cases by hand of document 01, and some about the years of `julian` before year 1, about dates that are refused and about days
+// that are moved back, over the library's calls. A line for each case: the calendar, the units text, the offset that is read or the date that
+// is written, and the answer. The stored output is written by hand from the documents. The cases of the first two groups are proved over the definitions too
 // (specs/Cases.antt).
 use axis_text::AxisAnswer;
 use axis_types::Axis;
@@ -39,13 +39,20 @@ fn print_refusal(r: Refusal) {
 
 fn print_mark(exact: bool) {
     if exact {
-        io::write_all(1, b"\n");
         return;
     }
-    io::write_all(1, b" rounded\n");
+    io::write_all(1, b" rounded");
 }
 
-fn print_instant(c: Calendar, t: i64, exact: bool) {
+fn print_days_back(days: u32) {
+    if days == 0 {
+        return;
+    }
+    io::write_all(1, b", days back: ");
+    io::print_decimal(1, days as u64);
+}
+
+fn print_instant(c: Calendar, t: i64, exact: bool, days_back: u32) {
     let mut room = [0u8; 28];
     match iso_text::write_iso(c, t, &mut room) {
         LengthAnswer::Refused(r) => print_refusal(r),
@@ -55,6 +62,8 @@ fn print_instant(c: Calendar, t: i64, exact: bool) {
                 io::write_all(1, &room[start..n]);
             }
             print_mark(exact);
+            print_days_back(days_back);
+            io::write_all(1, b"\n");
         }
     }
 }
@@ -63,9 +72,11 @@ fn print_instant(c: Calendar, t: i64, exact: bool) {
 
 fn print_reading(axis: Axis, offset: Offset) {
     let c = axis.calendar;
-    match axis::read(axis, offset) {
+    let one = axis::read(axis, offset);
+    let reading = one.reading;
+    match reading {
         Reading::Refused(r) => print_refusal(r),
-        Reading::At(t, exact) => print_instant(c, t, exact),
+        Reading::At(t, exact) => print_instant(c, t, exact, one.days_back),
     }
 }
 
@@ -219,6 +230,30 @@ fn dropped_dates() {
     write_date(b"julian", b"days since 1582-10-15", b"1582-10-14");
 }
 
+// ---- how far a day was moved back (document 02, CR 7)
+
+fn moved_days() {
+    read_whole(b"standard", b"calendar months since 2000-01-31", 1);
+    read_whole(b"noleap", b"calendar months since 2000-01-31", 1);
+    read_whole(b"360_day", b"calendar months since 2000-01-30", 1);
+    read_whole(b"standard", b"calendar years since 2000-02-29", 1);
+    read_double(b"standard", b"calendar months since 2000-01-31", 3, 1);
+}
+
+fn days_moved_to_the_cutover() {
+    read_whole(b"standard", b"calendar months since 1582-09-04", 1);
+    read_whole(b"standard", b"calendar months since 1582-09-05", 1);
+    read_whole(b"standard", b"calendar months since 1582-09-14", 1);
+    read_whole(b"standard", b"calendar months since 1582-09-15", 1);
+    read_whole(b"julian", b"calendar months since 1582-09-14", 1);
+}
+
+fn days_not_moved() {
+    read_whole(b"standard", b"calendar weeks since 1930-01-31", 4);
+    read_whole(b"standard", b"months since 1930-01-31", 1);
+    read_whole(b"standard", b"calendar years since 1600-02-29", 8400);
+}
+
 // ---- all of them
 
 fn main() {
@@ -233,4 +268,7 @@ fn main() {
     impossible_fields();
     missing_dates();
     dropped_dates();
+    moved_days();
+    days_moved_to_the_cutover();
+    days_not_moved();
 }

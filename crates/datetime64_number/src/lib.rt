@@ -121,7 +121,8 @@ fn check_steps(unit: UnitCode, part: Part, start: Start, n: i64) -> NumberCheck
     if signed::biased(n) == 0 {
         return NumberCheck::Refused(Refusal::NotATime);
     }
-    match calendar_axis::read_from(Calendar::ProlepticGregorian, part, start, n) {
+    let reading = calendar_axis::read_from(Calendar::ProlepticGregorian, part, start, n).reading;
+    match reading {
         Reading::At(_, _) => return NumberCheck::Good,
         Reading::Refused(r) => return NumberCheck::Refused(r),
     }

@@ -69,7 +69,8 @@ fn read_parts(name: &[u8], units: &[u8], offset: Offset) -> LineAnswer
         AxisAnswer::Refused(r) => return LineAnswer::Refused(r),
         AxisAnswer::Is(axis) => {
             let c = axis.calendar;
-            return of_reading(c, axis::read(axis, offset));
+            let reading = axis::read(axis, offset).reading;
+            return of_reading(c, reading);
         }
     }
 }

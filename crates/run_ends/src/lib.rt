@@ -11,16 +11,19 @@ use crate::ends::WholeDoubleEnds;
 use crate::ends::WholeEnds;
 use axis_types::Axis;
 use axis_types::Mode;
+use axis_types::OffsetReading;
 use axis_types::Reading;
 
 pub mod ends;
 
-fn both_read(a: Reading, b: Reading) -> bool
-    ensures { λ r. ⌜ r ≡ (isRead a && isRead b) ⌝ }
+fn both_read(a: OffsetReading, b: OffsetReading) -> bool
+    ensures { λ r. ⌜ r ≡ (isRead (a .reading) && isRead (b .reading)) ⌝ }
 {
-    match a {
+    let first = a.reading;
+    let second = b.reading;
+    match first {
         Reading::Refused(_) => return false,
-        Reading::At(_, _) => match b {
+        Reading::At(_, _) => match second {
             Reading::Refused(_) => return false,
             Reading::At(_, _) => return true,
         },

@@ -33,7 +33,7 @@ fn first_refused_double(axis: Axis, source: &[f64]) -> Check
 {
     let mut i: usize = 0;
     while i < source.len() {
-        let one = axis::read_double(axis, source[i]);
+        let one = axis::read_double(axis, source[i]).reading;
         match one {
             Reading::Refused(refusal) => {
                 return Check::Refused { refusal, place: i };
@@ -51,7 +51,7 @@ fn first_refused_whole(axis: Axis, source: &[i64]) -> Check
 {
     let mut i: usize = 0;
     while i < source.len() {
-        let one = axis::read_whole(axis, source[i]);
+        let one = axis::read_whole(axis, source[i]).reading;
         match one {
             Reading::Refused(refusal) => {
                 return Check::Refused { refusal, place: i };

@@ -18,7 +18,7 @@ use Rattle.calendar.proofs.Existing.{date-eq, valid-of}
 use Rattle.calendar.proofs.Labels.{firstYear, year-in}
 use Rattle.step.specs.Answers.{stepsBetween}
 use Rattle.step.specs.Closed.{monthAt, monthCount, monthsOf, YearOf}
-use Rattle.step.specs.Steps.{YearMonth, yearMonth, yearMonthOf, monthReached, downTo, dateDown, dateAfter}
+use Rattle.step.specs.Steps.{YearMonth, yearMonth, yearMonthOf, monthReached, downTo, stepsDown, dateDown, dateAfter, daysBack}
 use Rattle.step.specs.declared.Part.{Part}
 use Rattle.step.specs.declared.StepAnswer.{StepAnswer}
 use Rattle.step.proofs.Counts.{months-at, months-below, month-is}
@@ -79,9 +79,16 @@ module _ (c : Calendar) (x : Date) (y : ℕ) (g : YearOf c x y) where
     year-below h = ap (λ (p : YearMonth). inYears (monthReached part c (subℕ n b) p .year)) (sym month-counted) ∙ months-below c part n b (monthCount y (x .month)) h
 
     module _ (j : ℕ) (e : j + b * monthsOf part ≡ monthCount y (x .month) + n * monthsOf part) where
+      month-at : monthAt c j ≡ monthReached part c (subℕ n b) (yearMonthOf x)
+      month-at = sym (months-at c part n b (monthCount y (x .month)) j e) ∙ ap (monthReached part c (subℕ n b)) month-counted
+
       pub date-at : dateDown c (monthAt c j) (x .day) ≡ dateAfter part c (subℕ n b) x
       unfolding dateAfter
-      date-at = ap (λ (p : YearMonth). dateDown c p (x .day)) (sym (months-at c part n b (monthCount y (x .month)) j e) ∙ ap (monthReached part c (subℕ n b)) month-counted)
+      date-at = ap (λ (p : YearMonth). dateDown c p (x .day)) month-at
+
+      pub back-at : stepsDown c (monthAt c j .year) (monthAt c j .month) (x .day) ≡ daysBack part c (subℕ n b) x
+      unfolding daysBack
+      back-at = ap (λ (p : YearMonth). stepsDown c (p .year) (p .month) (x .day)) month-at
 
       year-at : inYears (dateAfter part c (subℕ n b) x .year) ≡ (leb (12 * firstYear (hasYearZero c)) j && ltb j 240000)
       year-at = ap (λ (d : Date). inYears (d .year)) (sym date-at) ∙ month-in (hasYearZero c) j

@@ -1,15 +1,15 @@
 -- The day that a step keeps: it exists, and it is the asked day or the next below it that exists, which is the last of its month or the last
 -- day before a cutover.
 use mathlib.Core.Path.{_≡_, refl, sym, ap, _∙_, subst}
-use mathlib.Core.Bool.{Bool, true, false}
+use mathlib.Core.Bool.{Bool, true, false, cond}
 use Prim.Native.Nat.{ℕ, zero, suc, _+_, _-_, _<_, _≤_}
 use native.Mathlib.Omega.{arith}
 use native.Mathlib.Nat.{add-zero, add-suc}
 use lib.IntN.{ℤ}
 use Rattle.calendar.specs.Calendar.{rowOf, exists, date, hasYearZero}
 use Rattle.calendar.specs.declared.Calendar.{Calendar}
-use Rattle.calendar.proofs.Months.{Month, Below, first-there, below-day}
-use Rattle.step.specs.Steps.{YearMonth, downTo}
+use Rattle.calendar.proofs.Months.{Month, Below, DaysBelow, few, first-there, below-day, days-below}
+use Rattle.step.specs.Steps.{YearMonth, downTo, stepsDown}
 
 module _ (c : Calendar) (y : ℤ) (m : ℕ) where
   -- a day that exists is kept
@@ -30,6 +30,16 @@ module _ (c : Calendar) (y : ℤ) (m : ℕ) where
   passed : (a n : ℕ) → ((k : ℕ) → a < k → k ≤ a + n → exists c (date y m k) ≡ false) → downTo c y m (a + n) ≡ downTo c y m a
   passed a zero h = rw add-zero refl
   passed a (suc n) h = ap (downTo c y m) (add-suc a n) ∙ (below (a + n) (h (suc (a + n)) (omega arith) (omega arith)) ∙ passed a n (λ k p q. h k p (omega arith)))
+
+  -- the days that are passed lie between the asked day and the one that is kept
+  pub passed-days : (d : ℕ) → stepsDown c y m d + downTo c y m d ≡ d
+  unfolding downTo stepsDown
+  passed-days zero = refl
+  passed-days (suc d) = go (exists c (date y m (suc d))) (passed-days d)
+    where
+      go : (t : Bool) → stepsDown c y m d + downTo c y m d ≡ d → cond t 0 (suc (stepsDown c y m d)) + cond t (suc d) (downTo c y m d) ≡ suc d
+      go true h = omega arith
+      go false h = omega (arith, h)
 
   -- no day from above a up to d exists, and a does
   down-to : (a d : ℕ) → a ≤ d → exists c (date y m a) ≡ true → ((k : ℕ) → a < k → k ≤ d → exists c (date y m k) ≡ false) → downTo c y m d ≡ a
@@ -66,3 +76,20 @@ module _ (c : Calendar) (y : ℤ) (m : ℕ) (p : Month (hasYearZero c) y m) wher
       go false e =
           let b = below-day c y m p d h e in
           subst (Kept c y m d) (sym (down-to c y m (b .day) d (omega (arith, b .less)) (b .there) (b .none))) (next-below b)
+
+  -- of the days that are passed none exists
+  pub passed-none : (d : ℕ) → 1 ≤ d → (k : ℕ) → downTo c y m d < k → k ≤ d → exists c (date y m k) ≡ false
+  unfolding exists
+  passed-none d h k = go (downTo c y m d) (kept d h)
+    where
+      go : (g : ℕ) → Kept c y m d g → g < k → k ≤ d → exists c (date y m k) ≡ false
+      go g (asked e) a b = absurd (omega arith)
+      go g (next-below n) a b = n .none k a b
+
+  -- and they are few
+  pub passed-few : (d : ℕ) → 1 ≤ d → d ≤ 31 → DaysBelow c y m (stepsDown c y m d)
+  passed-few d low high = subst (DaysBelow c y m) (omega (arith, passed-days c y m d)) (go (downTo c y m d) (kept d low))
+    where
+      go : (g : ℕ) → Kept c y m d g → DaysBelow c y m (d - g)
+      go g (asked e) = few (omega arith)
+      go g (next-below b) = days-below y m d low high c p b

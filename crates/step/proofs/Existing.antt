@@ -1,18 +1,19 @@
--- The date that steps lead to exists, whenever the date that they begin at does.
+-- The date that steps lead to exists, whenever the date that they begin at does; and how far its day was stepped back.
 use mathlib.Core.Path.{_≡_, refl}
 use mathlib.Core.Bool.{Bool, true, false, cond}
-use Prim.Native.Nat.{_+_, _-_}
+use Prim.Native.Nat.{ℕ, _+_, _-_, _<_, _≤_}
 use native.Mathlib.Omega.{arith}
 use lib.Dec.{ltb}
 use lib.IntN.{ℤ}
 use borrow.Author.Tests.{ltb-true}
-use Rattle.calendar.specs.Calendar.{yearAfter, yearBefore, exists}
+use Rattle.calendar.specs.Calendar.{yearAfter, yearBefore, exists, date}
 use Rattle.calendar.specs.declared.Calendar.{Calendar}
 use Rattle.calendar.specs.declared.Date.{Date}
+use Rattle.calendar.proofs.Months.{DaysBelow}
 use Rattle.calendar.proofs.Existing.{valid-of, valid-year, after-not-0, before-not-0}
-use Rattle.step.specs.Steps.{YearMonth, yearMonth, yearMonthOf, stepAfter, stepBefore, monthReached, dateAfter}
+use Rattle.step.specs.Steps.{YearMonth, yearMonth, yearMonthOf, stepAfter, stepBefore, monthReached, dateAfter, daysBack}
 use Rattle.step.specs.declared.Part.{Part}
-use Rattle.step.proofs.Days.{IsMonth, Kept, kept, kept-there}
+use Rattle.step.proofs.Days.{passed-days, IsMonth, Kept, kept, kept-there, passed-none, passed-few}
 use Rattle.step.proofs.Steps.{keeping}
 
 module _ (c : Calendar) where
@@ -52,3 +53,20 @@ module _ (c : Calendar) where
     pub days-kept : let d = dateAfter part c z x in Kept c (d .year) (d .month) (x .day) (d .day)
     unfolding dateAfter
     days-kept = let p = monthReached part c z (yearMonthOf x) in kept c (p .year) (p .month) reached (x .day) (valid-of c x there .day-low)
+
+    -- the days stepped back: the asked day less the given one
+    pub days-apart : daysBack part c z x + dateAfter part c z x .day ≡ x .day
+    unfolding dateAfter daysBack
+    days-apart = let p = monthReached part c z (yearMonthOf x) in passed-days c (p .year) (p .month) (x .day)
+
+    -- none of them exists, and they are few
+    pub back-none : let d = dateAfter part c z x in (k : ℕ) → d .day < k → k ≤ x .day → exists c (date (d .year) (d .month) k) ≡ false
+    unfolding dateAfter
+    back-none = let p = monthReached part c z (yearMonthOf x) in passed-none c (p .year) (p .month) reached (x .day) (valid-of c x there .day-low)
+
+    pub back-few : let d = dateAfter part c z x in DaysBelow c (d .year) (d .month) (daysBack part c z x)
+    unfolding dateAfter daysBack
+    back-few =
+        let p = monthReached part c z (yearMonthOf x) in
+        let v = valid-of c x there in
+        passed-few c (p .year) (p .month) reached (x .day) (v .day-low) (v .day-high)

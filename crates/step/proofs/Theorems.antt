@@ -1,19 +1,20 @@
 -- What is proved of steps, in one place. `part` is the month or the year, `c` any of the six calendars; z, w and n are any integers.
 use mathlib.Core.Path.{_≡_, sym, ap, _∙_}
-use mathlib.Core.Bool.{true}
-use Prim.Native.Nat.{ℕ, _*_, _+_, _≤_}
+use mathlib.Core.Bool.{true, false}
+use Prim.Native.Nat.{ℕ, _*_, _+_, _<_, _≤_}
 use lib.IntN.{ℤ, pos, subℕ}
 use lib.Signed.{ltZ, mag}
 use Rattle.signed.proofs.Differences.{common}
-use Rattle.calendar.specs.Calendar.{hasYearZero, exists, inYears}
+use Rattle.calendar.specs.Calendar.{hasYearZero, exists, date, inYears}
 use Rattle.calendar.specs.Order.{earlier}
 use Rattle.calendar.specs.declared.Calendar.{Calendar}
 use Rattle.calendar.specs.declared.Date.{Date}
 use Rattle.calendar.proofs.Existing.{valid-of, valid-year}
+use Rattle.calendar.proofs.Months.{DaysBelow}
 use Rattle.calendar.proofs.Theorems.{count-of}
 use Rattle.step.specs.Answers.{stepsBetween}
 use Rattle.step.specs.Closed.{monthAt, monthsOf, HasNumber, YearOf}
-use Rattle.step.specs.Steps.{monthReached, dateAfter}
+use Rattle.step.specs.Steps.{monthReached, dateAfter, daysBack}
 use Rattle.step.specs.declared.Part.{Part}
 use Rattle.step.specs.declared.StepAnswer.{StepAnswer}
 use Rattle.step.proofs.Answering.{inside, found}
@@ -45,6 +46,17 @@ module _ (part : Part) (c : Calendar) where
     -- its day is that of x, the last of its month, or 4 among the dropped days of October 1582
     pub steps-kept : (z : ℤ) → let d = dateAfter part c z x in Kept c (d .year) (d .month) (x .day) (d .day)
     steps-kept = Existing.days-kept c part x there
+
+    -- the days that it is stepped back are the asked day less the given one, and none of those days exists
+    pub back-apart : (z : ℤ) → daysBack part c z x + dateAfter part c z x .day ≡ x .day
+    back-apart = Existing.days-apart c part x there
+
+    pub back-none : (z : ℤ) → let d = dateAfter part c z x in (k : ℕ) → d .day < k → k ≤ x .day → exists c (date (d .year) (d .month) k) ≡ false
+    back-none = Existing.back-none c part x there
+
+    -- they are at most 3, or in October 1582 of `standard` at most 10
+    pub back-few : (z : ℤ) → let d = dateAfter part c z x in DaysBelow c (d .year) (d .month) (daysBack part c z x)
+    back-few = Existing.back-few c part x there
 
   -- ---- the number of steps between two dates
 

@@ -49,9 +49,18 @@ unfoldable pub downTo : Calendar → ℤ → ℕ → ℕ → ℕ
 downTo c y m zero = 0
 downTo c y m (suc d) = cond (exists c (date y m (suc d))) (suc d) (downTo c y m d)
 
+-- how many days it lies below day d: the steps that `downTo` takes
+unfoldable pub stepsDown : Calendar → ℤ → ℕ → ℕ → ℕ
+stepsDown c y m zero = 0
+stepsDown c y m (suc d) = cond (exists c (date y m (suc d))) 0 (suc (stepsDown c y m d))
+
 abbrev pub dateDown : Calendar → YearMonth → ℕ → Date
 dateDown c p d = date (p .year) (p .month) (downTo c (p .year) (p .month) d)
 
 -- the date z steps after x
 unfoldable pub dateAfter : Part → Calendar → ℤ → Date → Date
 dateAfter part c z x = dateDown c (monthReached part c z (yearMonthOf x)) (x .day)
+
+-- the days that it is stepped back: document 02, CR 7
+unfoldable pub daysBack : Part → Calendar → ℤ → Date → ℕ
+daysBack part c z x = let p = monthReached part c z (yearMonthOf x) in stepsDown c (p .year) (p .month) (x .day)

@@ -8,12 +8,11 @@ ghost use lib.IntN.{subℕ};
 ghost use Rattle.calendar.specs.Calendar.{hasYearZero, exists, dateOf, inYears};
 ghost use Rattle.calendar.specs.Closed.{yearAt};
 ghost use Rattle.calendar.specs.Answers.{dayAnswer};
-ghost use Rattle.step.specs.Answers.{stepsBetween};
+ghost use Rattle.step.specs.Answers.{steppedBack, stepsBetween};
 ghost use Rattle.step.specs.Closed.{monthAt, monthCount, monthsOf, HasNumber, YearOf};
-ghost use Rattle.step.specs.Steps.{downTo, dateDown, dateAfter};
+ghost use Rattle.step.specs.Steps.{downTo, stepsDown, dateDown, dateAfter, daysBack};
 use calendar::Calendar;
 use calendar::Date;
-use calendar::DayAnswer;
 use calendar::YearCount;
 use refusal::Refusal;
 
@@ -21,6 +20,12 @@ use refusal::Refusal;
 pub enum Part {
     Month,
     Year,
+}
+
+// The day number that steps lead to, and the days that it was stepped back to a day that exists; or a refusal.
+pub enum DayReached {
+    Is(i64, u32),
+    Refused(Refusal),
 }
 
 // The number of steps from one date to another, or that no number of steps leads there.
@@ -95,14 +100,25 @@ fn day_down(c: Calendar, y: u64, month: u32, day: u32) -> u32
     return 0;
 }
 
-// The day number of day `day` of month i, or of the nearest day below it that exists.
-fn day_in(c: Calendar, i: u64, day: u32) -> i64
+// A day number, and the days that it was stepped back.
+pub struct DayInMonth {
+    pub number: i64,
+    pub days_back: u32,
+}
+
+// Day `day` of month i, or the nearest day below it that exists.
+fn day_in(c: Calendar, i: u64, day: u32) -> DayInMonth
     requires { ⌜ (i < 240000) × (exists c (dateDown c (monthAt c i) day) ≡ true) ⌝ }
-    ensures { λ n. ⌜ dateOf c n ≡ dateDown c (monthAt c i) day ⌝ }
+    ensures dated { λ r. ⌜ dateOf c (r .number) ≡ dateDown c (monthAt c i) day ⌝ }
+    ensures back { λ r. ⌜ r .«days_back» ≡ stepsDown c (monthAt c i .year) (monthAt c i .month) day ⌝ }
 {
     let y = i / 12;
     let month = (i % 12 + 1) as u32;
-    calendar::ordinal::day_in_year(c, y, month, day_down(c, y, month, day))
+    let given = day_down(c, y, month, day);
+    DayInMonth {
+        number: calendar::ordinal::day_in_year(c, y, month, given),
+        days_back: day - given,
+    }
 }
 
 // ---- steps from a date x of year y
@@ -113,29 +129,30 @@ pub fn day_after(c: Calendar, part: Part, x: Date, y: u64, n: i64) -> i64
     ensures { λ k. ⌜ dateOf c k ≡ dateAfter part c n x ⌝ }
 {
     let j = month_after(part, month_count(y, x.month), signed::biased(n));
-    day_in(c, j - 2880000, x.day)
+    day_in(c, j - 2880000, x.day).number
 }
 
-// The same with the test: OutOfRange where the year lies past -9999 to 9999.
-pub fn day_reached(c: Calendar, part: Part, x: Date, y: u64, n: i64) -> DayAnswer
+// The same with the test, OutOfRange where the year lies past -9999 to 9999, and with the days stepped back.
+pub fn day_reached(c: Calendar, part: Part, x: Date, y: u64, n: i64) -> DayReached
     requires { ⌜ YearOf c x y ⌝ }
-    ensures { λ r. ⌜ r ≡ dayAnswer c (dateAfter part c n x) ⌝ }
+    ensures { λ r. ⌜ r ≡ steppedBack (dayAnswer c (dateAfter part c n x)) (daysBack part c n x) ⌝ }
 {
     let k = signed::biased(n);
     if k < 0x8000_0000_0000_0000 - 240000 {
-        return DayAnswer::Refused(Refusal::OutOfRange);
+        return DayReached::Refused(Refusal::OutOfRange);
     }
     if 0x8000_0000_0000_0000 + 240000 <= k {
-        return DayAnswer::Refused(Refusal::OutOfRange);
+        return DayReached::Refused(Refusal::OutOfRange);
     }
     let j = month_after(part, month_count(y, x.month), k);
     if j < 2880000 + 12 * first_year(c) {
-        return DayAnswer::Refused(Refusal::OutOfRange);
+        return DayReached::Refused(Refusal::OutOfRange);
     }
     if 2880000 + 240000 <= j {
-        return DayAnswer::Refused(Refusal::OutOfRange);
+        return DayReached::Refused(Refusal::OutOfRange);
     }
-    return DayAnswer::Is(day_in(c, j - 2880000, x.day));
+    let d = day_in(c, j - 2880000, x.day);
+    return DayReached::Is(d.number, d.days_back);
 }
 
 // ---- steps between dates

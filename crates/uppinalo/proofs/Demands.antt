@@ -6,6 +6,7 @@ use Rattle.uppinalo.proofs.Zeros.{refusals}
 use Rattle.uppinalo.proofs.NextDay.{dates, days-after, days}
 use Rattle.uppinalo.proofs.Writings.{writing}
 use Rattle.uppinalo.proofs.Derived.{texts, before-texts}
+use Rattle.uppinalo.proofs.DaysBack.{days-back}
 use Rattle.uppinalo.proofs.WhyRefused.{refused-dates}
 use Rattle.uppinalo.proofs.InFragments.{fragments}
 use Rattle.uppinalo.proofs.Doubles.{doubles}
@@ -27,6 +28,7 @@ demands =
       days-there = days-after;
       days = days;
       writing = writing;
+      days-back = days-back;
       refused-dates = refused-dates;
       texts = texts;
       before-texts = before-texts;

@@ -1,5 +1,5 @@
 -- Demand 3: doubles on a fixed axis.
-use mathlib.Core.Path.{_≡_, refl, sym, ap, _∙_}
+use mathlib.Core.Path.{_≡_, refl, sym, ap, _∙_, subst}
 use mathlib.Core.Bool.{Bool, true, false, cond}
 use Prim.Native.Nat.{ℕ}
 use lib.Dec.{eqb}
@@ -16,14 +16,14 @@ use Rattle.axis_types.specs.declared.Reading.{Reading}
 use Rattle.double.specs.Nearest.{distance, nearestCount}
 use Rattle.fixed_axis.specs.Fixed.{readDouble}
 use Rattle.fixed_axis.proofs.Demands as Fixed
-use Rattle.axis.specs.Axis.{readDoubleOn}
+use Rattle.axis.specs.Axis.{doubleBack}
 use Rattle.axis.proofs.Laws.{good-in}
 use Rattle.axis.proofs.Demands as Axes
 use Rattle.codes.specs.Codes.{axisCode}
 use Rattle.uppinalo.specs.Offsets.{ofReading, uppinaloReadDouble}
-use Rattle.uppinalo.specs.Demands.{readAt, DoublesRead, GoodReference}
+use Rattle.uppinalo.specs.Demands.{ReadsAt, DoublesRead, GoodReference}
 use Rattle.uppinalo.specs.declared.texts.UppinaloReading.{UppinaloReading}
-use Rattle.uppinalo.proofs.Boundary.{read-is, reading-at, reading-refused}
+use Rattle.uppinalo.proofs.Boundary.{double-is, reading-at, reading-refused}
 
 module _ (x : Axis) (m : x .mode ≡ Mode.Fixed) (g : GoodReference x) where
   abbrev calendar : Calendar
@@ -35,22 +35,26 @@ module _ (x : Axis) (m : x .mode ≡ Mode.Fixed) (g : GoodReference x) where
   abbrev reference : ℤ
   reference = x .reference
 
-  double-is : (y : Float) → uppinaloReadDouble (axisCode x) y ≡ ofReading (readDouble calendar period reference y)
-  double-is y = read-is x (λ (a : Axis). readDoubleOn a y) ∙ ap ofReading (Axes.fixed-double x y (good-in x g) m)
+  -- what the call answers, of a reading on the axis
+  abbrev alone : Float → Reading → UppinaloReading
+  alone y r = ofReading r (doubleBack x y)
 
-  double-at : (y : Float) (z : ℤ) (exact : Bool) → uppinaloReadDouble (axisCode x) y ≡ readAt z exact → readDouble calendar period reference y ≡ Reading.At z exact
-  double-at y z exact h = reading-at (readDouble calendar period reference y) z exact (sym (double-is y) ∙ h)
+  read-double : (y : Float) → uppinaloReadDouble (axisCode x) y ≡ alone y (readDouble calendar period reference y)
+  read-double y = double-is x y (Axes.fixed-double x y (good-in x g) m)
 
-  number-is : (y : Float) → uppinaloReadDouble (axisCode x) y .number ≡ ofReading (readDouble calendar period reference y) .number
-  number-is y = ap (λ (a : UppinaloReading). a .number) (double-is y)
+  double-at : (y : Float) (z : ℤ) (exact : Bool) → ReadsAt (uppinaloReadDouble (axisCode x) y) z exact → readDouble calendar period reference y ≡ Reading.At z exact
+  double-at y z exact h = reading-at (readDouble calendar period reference y) (doubleBack x y) z exact (subst (λ (a : UppinaloReading). ReadsAt a z exact) (read-double y) h)
 
-  only-past : (s : Bool) (k : ℕ) (e : ℤ) → (ofReading (readDouble calendar period reference (fin s k e)) .number ≡ 5 → ⊥) → ofReading (readDouble calendar period reference (fin s k e)) .number ≡ 0
+  number-is : (y : Float) → uppinaloReadDouble (axisCode x) y .number ≡ alone y (readDouble calendar period reference y) .number
+  number-is y = ap (λ (a : UppinaloReading). a .number) (read-double y)
+
+  only-past : (s : Bool) (k : ℕ) (e : ℤ) → (alone (fin s k e) (readDouble calendar period reference (fin s k e)) .number ≡ 5 → ⊥) → alone (fin s k e) (readDouble calendar period reference (fin s k e)) .number ≡ 0
   unfolding readDouble
   only-past s k e =
       let z = nearestCount reference (lengthOf period) s k e in
       go (inRange calendar z) z (eqb (distance reference (lengthOf period) s k e z) 0)
     where
-      go : (b : Bool) (z : ℤ) (exact : Bool) → (ofReading (cond b (Reading.At z exact) (Reading.Refused OutOfRange)) .number ≡ 5 → ⊥) → ofReading (cond b (Reading.At z exact) (Reading.Refused OutOfRange)) .number ≡ 0
+      go : (b : Bool) (z : ℤ) (exact : Bool) → (alone (fin s k e) (cond b (Reading.At z exact) (Reading.Refused OutOfRange)) .number ≡ 5 → ⊥) → alone (fin s k e) (cond b (Reading.At z exact) (Reading.Refused OutOfRange)) .number ≡ 0
       go true z exact h = refl
       go false z exact h = absurd (h refl)
 
@@ -61,11 +65,11 @@ module _ (x : Axis) (m : x .mode ≡ Mode.Fixed) (g : GoodReference x) where
         one-nearest = Fixed.nearest-only calendar period reference;
         right = λ s k e z exact h. Fixed.read-right calendar period reference s k e z exact (double-at (fin s k e) z exact h);
         past = λ s k e z n. (
-          (λ h. Fixed.refused-past calendar period reference s k e z n (reading-refused (readDouble calendar period reference (fin s k e)) OutOfRange (sym (number-is (fin s k e)) ∙ h))),
-          λ h. number-is (fin s k e) ∙ ap (λ (r : Reading). ofReading r .number) (Fixed.past-refused calendar period reference s k e z n h),
+          (λ h. Fixed.refused-past calendar period reference s k e z n (reading-refused (readDouble calendar period reference (fin s k e)) (doubleBack x (fin s k e)) OutOfRange (sym (number-is (fin s k e)) ∙ h))),
+          λ h. number-is (fin s k e) ∙ ap (λ (r : Reading). alone (fin s k e) r .number) (Fixed.past-refused calendar period reference s k e z n h),
         );
         only-past = λ s k e h. number-is (fin s k e) ∙ only-past s k e (λ q. h (number-is (fin s k e) ∙ q));
         in-order = λ y z t u i j l p q. Fixed.read-ordered calendar period reference y z t u i j l (double-at y t i p) (double-at z u j q);
-        not-a-number = double-is nan ∙ ap ofReading (Fixed.not-finite calendar period reference .0);
-        infinite = λ s. double-is (inf s) ∙ ap ofReading (Fixed.not-finite calendar period reference .1 s);
+        not-a-number = read-double nan ∙ ap (alone nan) (Fixed.not-finite calendar period reference .0);
+        infinite = λ s. read-double (inf s) ∙ ap (alone (inf s)) (Fixed.not-finite calendar period reference .1 s);
       }

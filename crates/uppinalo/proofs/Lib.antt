@@ -6,6 +6,7 @@ pub mod Zeros
 pub mod NextDay
 pub mod Writings
 pub mod Derived
+pub mod DaysBack
 pub mod WhyRefused
 pub mod UtcTimes
 pub mod InFragments

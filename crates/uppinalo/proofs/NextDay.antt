@@ -14,11 +14,12 @@ use Rattle.instant.specs.Instant.{dayOf, timeOf, inRange, fieldsAt, withTime, f
 use Rattle.instant.proofs.Theorems.{fields-in}
 use Rattle.axis_types.specs.declared.Axis.{Axis}
 use Rattle.axis_types.specs.declared.Period.{Period}
+use Rattle.axis_types.specs.declared.Reading.{Reading}
 use Rattle.fixed_axis.specs.Fixed.{timeAfter, readWhole}
 use Rattle.fixed_axis.proofs.Dates.{day-after, time-after}
 use Rattle.fixed_axis.proofs.Offsets.{reads}
 use Rattle.fixed_axis.proofs.Readings.{settled}
-use Rattle.axis.specs.Axis.{readWholeOn}
+use Rattle.axis.specs.Axis.{wholeBack}
 use Rattle.axis.proofs.Laws.{good-in}
 use Rattle.axis.proofs.Demands as Axes
 use Rattle.codes.specs.Codes.{axisCode}
@@ -26,7 +27,7 @@ use Rattle.uppinalo.specs.Days.{ofDate, noDate, ofDay, noFields, ofField
 use Rattle.uppinalo.specs.Offsets.{ofReading, uppinaloReadWhole}
 use Rattle.uppinalo.specs.Demands.{GoodReference, fieldsGiven, IsDay, DatesByNextDay, DaysFromReference, DaysRead}
 use Rattle.uppinalo.specs.declared.days.UppinaloDateAnswer.{UppinaloDateAnswer}
-use Rattle.uppinalo.proofs.Boundary.{read-is, date-is, day-is, fields-is}
+use Rattle.uppinalo.proofs.Boundary.{whole-is, date-is, day-is, fields-is, at-reading}
 
 -- ---- demand 2: dates
 
@@ -91,8 +92,8 @@ module _ (x : Axis) (n : ℤ) (r d : Date) (h : DaysFromReference x n r d) where
       let s = subst (λ (y : Date). DaysOn c y n d) (is-date c z r (h .from)) (h .steps) in
       ap (dateOf c) (day-after (x .reference) n) ∙ sym (days-only c z n d (h .there) s)
 
-  by-days : uppinaloReadWhole (axisCode x) n ≡ ofReading (readWhole c Period.Day (x .reference) n)
-  by-days = read-is x (λ (a : Axis). readWholeOn a n) ∙ ap ofReading (Axes.days-read x (good-in x (h .good)) (h .days) n)
+  by-days : {r : Reading} → readWhole c Period.Day (x .reference) n ≡ r → uppinaloReadWhole (axisCode x) n ≡ ofReading r (wholeBack x n)
+  by-days e = whole-is x n (Axes.days-read x (good-in x (h .good)) (h .days) n ∙ e)
 
   in-years-of : {b : Bool} → inYears (d .year) ≡ b → inRange c t ≡ b
   in-years-of k = ap (λ (y : Date). inYears (y .year)) date-of-time ∙ k
@@ -103,8 +104,8 @@ module _ (x : Axis) (n : ℤ) (r d : Date) (h : DaysFromReference x n r d) where
       record {
         inside = λ k. (
           t,
-          by-days ∙ ap ofReading (reads c Period.Day (x .reference) n t (in-years-of k) refl),
+          at-reading (uppinaloReadWhole (axisCode x) n) (wholeBack x n) t true (by-days (reads c Period.Day (x .reference) n t (in-years-of k) refl)),
           fields-is c t ∙ (ap ofFields (fields-in c t (in-years-of k)) ∙ (λ i. fieldsGiven (fieldsAt (date-of-time i) (time-after (x .reference) n i)))),
         );
-        past = λ k. by-days ∙ ap ofReading (sym (settled c t true (in-years-of k)));
+        past = λ k. by-days (sym (settled c t true (in-years-of k)));
       }

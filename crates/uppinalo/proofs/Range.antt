@@ -18,7 +18,7 @@ use Rattle.axis_types.specs.declared.Axis.{Axis}
 use Rattle.axis_types.specs.declared.Offset.{Offset}
 use Rattle.axis_types.specs.declared.Reading.{Reading}
 use Rattle.axis_types.proofs.Answers.{was-read}
-use Rattle.axis.specs.Axis.{axisCheck, readWholeOn, readDoubleOn, readOffset}
+use Rattle.axis.specs.Axis.{offsetBack, axisCheck, readWholeOn, readDoubleOn, readOffset}
 use Rattle.axis.specs.declared.AxisCheck.{AxisCheck}
 use Rattle.axis.proofs.Demands as Axes
 use Rattle.run_ends.specs.Each.{Each}
@@ -48,14 +48,15 @@ use Rattle.codes.proofs.Back.{axis-back}
 use Rattle.uppinalo.specs.Offsets.{readOn}
 use Rattle.uppinalo.specs.Runs.{runOn, destinationOn}
 use Rattle.uppinalo.specs.Texts.{ofInstant, ofAxis}
-use Rattle.uppinalo.specs.Demands.{GoodReference, readAt, GivenInYears}
+use Rattle.uppinalo.specs.Demands.{GoodReference, ReadsAt, GivenInYears}
 use Rattle.uppinalo.specs.declared.texts.UppinaloReading.{UppinaloReading}
 use Rattle.uppinalo.specs.declared.texts.UppinaloAxisAnswer.{UppinaloAxisAnswer}
 use Rattle.uppinalo.proofs.SoFar.{end-outcome}
 use Rattle.uppinalo.proofs.Boundary.{read-is, reading-at}
 
-offset-inside : (x : Axis) (t : ℤ) (exact : Bool) (o : Offset) → readOn (codedAxis (axisCode x)) (λ (a : Axis). readOffset a o) ≡ readAt t exact → inRange (x .calendar) t ≡ true
-offset-inside x t exact o h = Axes.read-inside x t exact o (reading-at (readOffset x o) t exact (sym (read-is x (λ (a : Axis). readOffset a o)) ∙ h))
+offset-inside : (x : Axis) (t : ℤ) (exact : Bool) (o : Offset) → ReadsAt (readOn (codedAxis (axisCode x)) (λ (a : Axis). readOffset a o) (λ (a : Axis). offsetBack a o)) t exact → inRange (x .calendar) t ≡ true
+offset-inside x t exact o h =
+    Axes.read-inside x t exact o (reading-at (readOffset x o) (offsetBack x o) t exact (subst (λ (a : UppinaloReading). ReadsAt a t exact) (read-is x (λ (a : Axis). readOffset a o) (λ (a : Axis). offsetBack a o)) h))
 
 module _ {A : Type 0} (c : Calendar) (read : A → Reading) (inside : (y : A) (t : ℤ) (exact : Bool) → read y ≡ Reading.At t exact → inRange c t ≡ true) where
   each-inside : (xs : List A) → Each (λ (y : A). isRead (read y) ≡ true) xs → Each (λ (t : ℤ). inRange c t ≡ true) (map (λ (y : A). instantOf (read y)) xs)
@@ -94,19 +95,19 @@ records-inside (TypeAnswer.Is t) s ds h = go (recordsCheck t s (length ds)) refl
         (overlaid-inside ProlepticGregorian (readRecord t) inside (recordsIn s) ds (Checks.passed t s (length ds) e .all-read))
     go (Check.Refused r place) e h = absurd (not-success r h)
 
-iso-inside : (name text : List ℕ) (c : Calendar) (t : ℤ) (exact : Bool) → calendarOf name ≡ some c → ofInstant (readIso name text) ≡ readAt t exact → inRange c t ≡ true
+iso-inside : (name text : List ℕ) (c : Calendar) (t : ℤ) (exact : Bool) → calendarOf name ≡ some c → ReadsAt (ofInstant (readIso name text)) t exact → inRange c t ≡ true
 unfolding readIso
 iso-inside name text c t exact n =
-    text-outcome InstantAnswer.Refused dateRule writtenInstant name text (λ (a : InstantAnswer). ofInstant a ≡ readAt t exact → inRange c t ≡ true)
-    (λ r _ h. absurd (not-success r (ap (λ (q : UppinaloReading). q .number) h)))
+    text-outcome InstantAnswer.Refused dateRule writtenInstant name text (λ (a : InstantAnswer). ReadsAt (ofInstant a) t exact → inRange c t ≡ true)
+    (λ r _ h. absurd (not-success r (h .success)))
     (λ b w e. go b w e (writtenInstant b w) refl)
   where
-    go : (b : Calendar) (w : WrittenDate) → calendarOf name ≡ some b → (a : InstantAnswer) → writtenInstant b w ≡ a → ofInstant a ≡ readAt t exact → inRange c t ≡ true
+    go : (b : Calendar) (w : WrittenDate) → calendarOf name ≡ some b → (a : InstantAnswer) → writtenInstant b w ≡ a → ReadsAt (ofInstant a) t exact → inRange c t ≡ true
     go b w e (InstantAnswer.Is u) f h =
         let p = sym e ∙ n in
         let q : b ≡ c = cc in
-        (λ i. inRange (sym q i) (sym (ap (λ (r : UppinaloReading). r .instant) h) i)) ∙ written-inside b w u f
-    go b w e (InstantAnswer.Refused r) f h = absurd (not-success r (ap (λ (q : UppinaloReading). q .number) h))
+        (λ i. inRange (sym q i) (sym (h .instant) i)) ∙ written-inside b w u f
+    go b w e (InstantAnswer.Refused r) f h = absurd (not-success r (h .success))
 
 -- an axis that is given is the codes of one whose reference is good
 abbrev GoodAxis : UppinaloAxisAnswer → Type 0

@@ -4,7 +4,7 @@ use Prim.Native.Nat.{ℕ}
 use Rattle.refusal.specs.declared.Refusal.{Refusal}
 use Rattle.axis_types.specs.declared.Axis.{Axis}
 use Rattle.calendar.specs.declared.Calendar.{Calendar}
-use Rattle.axis.specs.Axis.{readWholeOn, readDoubleOn, writeInstantOn, writeFieldsOn}
+use Rattle.axis.specs.Axis.{readWholeOn, wholeBack, readDoubleOn, doubleBack, writeInstantOn, writeFieldsOn}
 use Rattle.codes.specs.Codes.{codedCalendar, codedAxis}
 use Rattle.codes.specs.declared.CodedCalendar.{CodedCalendar}
 use Rattle.codes.specs.declared.CodedAxis.{CodedAxis}
@@ -21,8 +21,8 @@ other-codes a r e =
     record {
       calendar-first = refused-calendar a r e;
       then-the-rest = λ c. refused-rest a r c e;
-      read-whole = λ n. ap (λ (k : CodedAxis). readOn k (λ (x : Axis). readWholeOn x n)) e;
-      read-double = λ y. ap (λ (k : CodedAxis). readOn k (λ (x : Axis). readDoubleOn x y)) e;
+      read-whole = λ n. ap (λ (k : CodedAxis). readOn k (λ (x : Axis). readWholeOn x n) (λ (x : Axis). wholeBack x n)) e;
+      read-double = λ y. ap (λ (k : CodedAxis). readOn k (λ (x : Axis). readDoubleOn x y) (λ (x : Axis). doubleBack x y)) e;
       write-instant = λ t. ap (λ (k : CodedAxis). writeOn k (λ (x : Axis). writeInstantOn x t)) e;
       write-fields = λ f. ap (λ (k : CodedAxis). writeOn k (λ (x : Axis). writeFieldsOn x f)) e;
       read-wholes = λ xs ds. ap (λ (k : CodedAxis). runOn k readWholeOn xs ds) e;

@@ -19,21 +19,22 @@ use Rattle.instant.proofs.Theorems.{shown, refused-as-date, fields-had, fields-
 use Rattle.axis_types.specs.declared.Axis.{Axis}
 use Rattle.axis_types.specs.declared.Reading.{Reading}
 use Rattle.axis_types.specs.declared.OffsetAnswer.{OffsetAnswer}
-use Rattle.axis.specs.Axis.{readWholeOn, writeInstantOn, writeFieldsOn}
+use Rattle.axis.specs.Axis.{readWholeOn, wholeBack, writeInstantOn, writeFieldsOn}
 use Rattle.axis.proofs.Laws.{good-in}
 use Rattle.axis.proofs.Demands as Axes
 use Rattle.codes.specs.Codes.{axisCode}
 use Rattle.uppinalo.specs.Days.{ofFields}
-use Rattle.uppinalo.specs.Offsets.{ofReading, noOffset, ofOffset, uppinaloReadWhole, uppinaloWriteInstant, uppinaloWriteFields}
-use Rattle.uppinalo.specs.Demands.{readAt, WritesExactly, HasFields, WritingBack, GoodReference}
-use Rattle.uppinalo.proofs.Boundary.{read-is, write-is, fields-is, reading-at}
+use Rattle.uppinalo.specs.Offsets.{noOffset, ofOffset, uppinaloReadWhole, uppinaloWriteInstant, uppinaloWriteFields}
+use Rattle.uppinalo.specs.Demands.{ReadsAt, WritesExactly, HasFields, WritingBack, GoodReference}
+use Rattle.uppinalo.specs.declared.texts.UppinaloReading.{UppinaloReading}
+use Rattle.uppinalo.proofs.Boundary.{whole-is, write-is, fields-is, reading-at, at-reading}
 
 module _ (x : Axis) (g : GoodReference x) where
-  reads-as : (n t : ℤ) → readWholeOn x n ≡ Reading.At t true → uppinaloReadWhole (axisCode x) n ≡ readAt t true
-  reads-as n t h = read-is x (λ (a : Axis). readWholeOn a n) ∙ ap ofReading h
+  reads-as : (n t : ℤ) → readWholeOn x n ≡ Reading.At t true → ReadsAt (uppinaloReadWhole (axisCode x) n) t true
+  reads-as n t h = at-reading (uppinaloReadWhole (axisCode x) n) (wholeBack x n) t true (whole-is x n h)
 
-  reads-back : (n t : ℤ) → uppinaloReadWhole (axisCode x) n ≡ readAt t true → readWholeOn x n ≡ Reading.At t true
-  reads-back n t h = reading-at (readWholeOn x n) t true (sym (read-is x (λ (a : Axis). readWholeOn a n)) ∙ h)
+  reads-back : (n t : ℤ) → ReadsAt (uppinaloReadWhole (axisCode x) n) t true → readWholeOn x n ≡ Reading.At t true
+  reads-back n t h = reading-at (readWholeOn x n) (wholeBack x n) t true (subst (λ (a : UppinaloReading). ReadsAt a t true) (whole-is x n refl) h)
 
   module _ (t : ℤ) (h : inRange (x .calendar) t ≡ true) where
     exactly : (a : OffsetAnswer) → writeInstantOn x t ≡ a → WritesExactly x t (ofOffset a)
@@ -44,7 +45,7 @@ module _ (x : Axis) (g : GoodReference x) where
         record { inexact = ((λ k. absurd (omega arith)), λ none. absurd (none n f r)); written = λ k. (refl, f, r) }
     exactly (OffsetAnswer.Refused r) e =
         let w = Axes.writing x (good-in x g) in
-        let none : (n : ℤ) → SFits w64 n → uppinaloReadWhole (axisCode x) n ≡ readAt t true → ⊥ = λ n f k. let m = sym e ∙ w .read-writes n t true (reads-back n t k) in (let z : _≡_ {A = ℕ} 0 1 = cc in omega arith) in
+        let none : (n : ℤ) → SFits w64 n → ReadsAt (uppinaloReadWhole (axisCode x) n) t true → ⊥ = λ n f k. let m = sym e ∙ w .read-writes n t true (reads-back n t k) in (let z : _≡_ {A = ℕ} 0 1 = cc in omega arith) in
         let m = sym e ∙ w .none-inexact t h (λ n f k. none n f (reads-as n t k)) in
         let is : r ≡ Inexact = cc in
         record { inexact = ((λ k. none), λ k. ap numberOf is); written = λ k. absurd (k (ap numberOf is)) }

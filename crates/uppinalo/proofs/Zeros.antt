@@ -17,7 +17,7 @@ use Rattle.instant.specs.declared.InstantAnswer.{InstantAnswer}
 use Rattle.axis_types.specs.declared.Axis.{Axis}
 use Rattle.axis_types.specs.declared.Reading.{Reading}
 use Rattle.axis_types.specs.declared.OffsetAnswer.{OffsetAnswer}
-use Rattle.axis.specs.Axis.{axisCheck, readWholeOn, readDoubleOn, writeInstantOn, writeFieldsOn}
+use Rattle.axis.specs.Axis.{axisCheck, readWholeOn, wholeBack, readDoubleOn, doubleBack, writeInstantOn, writeFieldsOn}
 use Rattle.runs.specs.Run.{roundedCount, overlaid, runCheck, checkAnswer, chosen}
 use Rattle.runs.specs.declared.Check.{Check}
 use Rattle.iso_form.specs.Form.{lengthAnswer, over}
@@ -54,9 +54,9 @@ of-fields : (a : FieldsAnswer) → FieldsOrZero (ofFields a)
 of-fields (FieldsAnswer.Is f) h = absurd (h refl)
 of-fields (FieldsAnswer.Refused r) h = refl
 
-of-reading : (a : Reading) → ReadingOrZero (ofReading a)
-of-reading (Reading.At t exact) h = absurd (h refl)
-of-reading (Reading.Refused r) h = (refl, refl)
+of-reading : (a : Reading) (k : ℕ) → ReadingOrZero (ofReading a k)
+of-reading (Reading.At t exact) k h = absurd (h refl)
+of-reading (Reading.Refused r) k h = (refl, refl, refl)
 
 of-offset : (a : OffsetAnswer) → OffsetOrZero (ofOffset a)
 of-offset (OffsetAnswer.Is n) h = absurd (h refl)
@@ -72,7 +72,7 @@ of-tt2000 (Tt2000Answer.Refused r) h = refl
 
 of-instant : (a : InstantAnswer) → ReadingOrZero (ofInstant a)
 of-instant (InstantAnswer.Is t) h = absurd (h refl)
-of-instant (InstantAnswer.Refused r) h = (refl, refl)
+of-instant (InstantAnswer.Refused r) h = (refl, refl, refl)
 
 of-axis : (a : AxisAnswer) → AxisOrZero (ofAxis a)
 of-axis (AxisAnswer.Is a) h = absurd (h refl)
@@ -111,9 +111,9 @@ unfolding writeIso roomIso
 length-zero (CodedCalendar.Is c) t room = of-iso (fieldsAnswer c t) room
 length-zero CodedCalendar.Unknown t room = λ h. (refl, refl)
 
-reading-zero : (k : CodedAxis) (read : Axis → Reading) → ReadingOrZero (readOn k read)
-reading-zero (CodedAxis.Is a) read = of-reading (read a)
-reading-zero (CodedAxis.Refused r) read = λ h. (refl, refl)
+reading-zero : (k : CodedAxis) (read : Axis → Reading) (back : Axis → ℕ) → ReadingOrZero (readOn k read back)
+reading-zero (CodedAxis.Is a) read back = of-reading (read a) (back a)
+reading-zero (CodedAxis.Refused r) read back = λ h. (refl, refl, refl)
 
 offset-zero : (k : CodedAxis) (write : Axis → OffsetAnswer) → OffsetOrZero (writeOn k write)
 offset-zero (CodedAxis.Is a) write = of-offset (write a)
@@ -135,8 +135,8 @@ refusals =
       date-of-day = λ calendar. date-zero (codedCalendar calendar);
       day-of-date = λ calendar. day-zero (codedCalendar calendar);
       fields-of = λ calendar. fields-zero (codedCalendar calendar);
-      read-whole = λ a n. reading-zero (codedAxis a) (λ x. readWholeOn x n);
-      read-double = λ a y. reading-zero (codedAxis a) (λ x. readDoubleOn x y);
+      read-whole = λ a n. reading-zero (codedAxis a) (λ x. readWholeOn x n) (λ x. wholeBack x n);
+      read-double = λ a y. reading-zero (codedAxis a) (λ x. readDoubleOn x y) (λ x. doubleBack x y);
       write-instant = λ a t. offset-zero (codedAxis a) (λ x. writeInstantOn x t);
       write-fields = λ a f. offset-zero (codedAxis a) (λ x. writeFieldsOn x f);
       read-wholes = λ a. run-zero (codedAxis a) readWholeOn;

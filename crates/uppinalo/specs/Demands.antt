@@ -1,7 +1,7 @@
 -- The three demands, stated of the calls of include/uppinalo.h: of what each call promises (the definitions that have a call's name in the
 -- other files of this folder), whatever it is handed. The last record, `Demands`, has them all; proofs/Demands.antt proves it. What is
--- demanded of the calls about datetime64 arrays alone stands in Arrays.antt, of those about TT2000 in UtcTimes.antt, and why a date is refused in
--- RefusedDates.antt.
+-- demanded of the calls about datetime64 arrays alone stands in Arrays.antt, of those about TT2000 in UtcTimes.antt, why a date is refused in
+-- RefusedDates.antt, and how far a day was moved back in DaysBack.antt.
 -- An axis crosses the boundary by its codes: `axisCode x` is what a caller hands in for the axis x, and `calendarCode c` for the calendar c.
 -- `CodesOfAxes` says that these codes name it, and that no others do; `OtherCodes` what calls with codes that name nothing answer.
 use mathlib.Core.Path.{_≡_}
@@ -59,6 +59,7 @@ use Rattle.uppinalo.specs.Fragments.{uppinaloStartUnits, uppinaloAddUnit
 use Rattle.uppinalo.specs.Datetime64.{uppinaloReadDatetime64, uppinaloReadDatetime64Destination, uppinaloWriteDatetime64, uppinaloWriteDatetime64Records}
 use Rattle.uppinalo.specs.Utc.{uppinaloReadTt2000, uppinaloWriteTt2000}
 use Rattle.uppinalo.specs.Arrays.{Arrays}
+use Rattle.uppinalo.specs.DaysBack.{DaysBack}
 use Rattle.uppinalo.specs.RefusedDates.{RefusedDates}
 use Rattle.uppinalo.specs.UtcTimes.{BadLists, UtcTimes}
 use Rattle.uppinalo.specs.declared.days.UppinaloDateAnswer.{UppinaloDateAnswer}
@@ -120,7 +121,7 @@ abbrev pub FieldsOrZero : UppinaloFieldsAnswer → Type 0
 FieldsOrZero a = IsRefused (a .number) → a .fields ≡ record { year = pos 0; month = 0; day = 0; hour = 0; minute = 0; second = 0; microsecond = 0 }
 
 abbrev pub ReadingOrZero : UppinaloReading → Type 0
-ReadingOrZero a = IsRefused (a .number) → (a .instant ≡ pos 0) × (a .exact ≡ false)
+ReadingOrZero a = IsRefused (a .number) → (a .instant ≡ pos 0) × (a .exact ≡ false) × (a .«days_back» ≡ 0)
 
 abbrev pub OffsetOrZero : UppinaloOffsetAnswer → Type 0
 OffsetOrZero a = IsRefused (a .number) → a .offset ≡ pos 0
@@ -165,8 +166,12 @@ pub record ZeroBesideRefusal : Type 0 where
 -- ---- demand 2: dates by the next-day rule
 
 -- the answers of success
-abbrev pub readAt : ℤ → Bool → UppinaloReading
-readAt t exact = record { number = 0; instant = t; exact = exact }
+
+-- the instant t is read, exactly or not; of the days stepped back speaks `DaysBack`
+pub record ReadsAt (a : UppinaloReading) (t : ℤ) (exact : Bool) : Type 0 where
+  pub success : a .number ≡ 0
+  pub instant : a .instant ≡ t
+  pub mark : a .exact ≡ exact
 
 abbrev pub fieldsGiven : Fields → UppinaloFieldsAnswer
 fieldsGiven f = record { number = 0; fields = f }
@@ -198,15 +203,15 @@ pub record DaysFromReference (x : Axis) (n : ℤ) (r d : Date) : Type 0 where
 
 pub record DaysRead (x : Axis) (n : ℤ) (d : Date) : Type 0 where
   -- in the years, the instant that is read has the date d and the reference's time of day
-  pub inside : inYears (d .year) ≡ true → (t : ℤ) × (uppinaloReadWhole (axisCode x) n ≡ readAt t true) × (uppinaloFieldsOf (calendarCode (x .calendar)) t ≡ fieldsGiven (fieldsAt d (timeOf (x .reference))))
+  pub inside : inYears (d .year) ≡ true → (t : ℤ) × ReadsAt (uppinaloReadWhole (axisCode x) n) t true × (uppinaloFieldsOf (calendarCode (x .calendar)) t ≡ fieldsGiven (fieldsAt d (timeOf (x .reference))))
   pub past : inYears (d .year) ≡ false → uppinaloReadWhole (axisCode x) n ≡ noReading OutOfRange
 
 -- ---- demand 2: what is written reads as it
 
 -- a writing of the instant t is refused as inexact exactly where no 64-bit offset reads as t, and else what is written reads as t
 pub record WritesExactly (x : Axis) (t : ℤ) (answer : UppinaloOffsetAnswer) : Type 0 where
-  pub inexact : (answer .number ≡ 6) ↔ ((n : ℤ) → SFits w64 n → uppinaloReadWhole (axisCode x) n ≡ readAt t true → ⊥)
-  pub written : (answer .number ≡ 6 → ⊥) → (answer .number ≡ 0) × SFits w64 (answer .offset) × (uppinaloReadWhole (axisCode x) (answer .offset) ≡ readAt t true)
+  pub inexact : (answer .number ≡ 6) ↔ ((n : ℤ) → SFits w64 n → ReadsAt (uppinaloReadWhole (axisCode x) n) t true → ⊥)
+  pub written : (answer .number ≡ 6 → ⊥) → (answer .number ≡ 0) × SFits w64 (answer .offset) × ReadsAt (uppinaloReadWhole (axisCode x) (answer .offset)) t true
 
 -- a calendar has these fields, in the years -9999 to 9999
 pub record HasFields (c : Calendar) (f : Fields) : Type 0 where
@@ -268,12 +273,12 @@ pub record DoublesRead (x : Axis) : Type 0 where
   pub nearest : (s : Bool) (m : ℕ) (e : ℤ) → (z : ℤ) × IsNearest (x .reference) (lengthOf (x .period)) s m e z
   pub one-nearest : (s : Bool) (m : ℕ) (e z w : ℤ) → IsNearest (x .reference) (lengthOf (x .period)) s m e z → IsNearest (x .reference) (lengthOf (x .period)) s m e w → z ≡ w
   -- what is read is it, at most half a microsecond off, marked exact just where the difference is 0
-  pub right : (s : Bool) (m : ℕ) (e z : ℤ) (exact : Bool) → uppinaloReadDouble (axisCode x) (fin s m e) ≡ readAt z exact → Demand3 (x .calendar) (x .period) (x .reference) s m e z exact
+  pub right : (s : Bool) (m : ℕ) (e z : ℤ) (exact : Bool) → ReadsAt (uppinaloReadDouble (axisCode x) (fin s m e)) z exact → Demand3 (x .calendar) (x .period) (x .reference) s m e z exact
   -- 5 exactly where it leaves the years; a finite double is refused with nothing else
   pub past : (s : Bool) (m : ℕ) (e z : ℤ) → IsNearest (x .reference) (lengthOf (x .period)) s m e z → (uppinaloReadDouble (axisCode x) (fin s m e) .number ≡ 5) ↔ (inYears (dateOf (x .calendar) (dayOf z) .year) ≡ false)
   pub only-past : (s : Bool) (m : ℕ) (e : ℤ) → (uppinaloReadDouble (axisCode x) (fin s m e) .number ≡ 5 → ⊥) → uppinaloReadDouble (axisCode x) (fin s m e) .number ≡ 0
   -- the greater double never gives the earlier instant
-  pub in-order : (y z : Float) (t u : ℤ) (i j : Bool) → T (le y z) → uppinaloReadDouble (axisCode x) y ≡ readAt t i → uppinaloReadDouble (axisCode x) z ≡ readAt u j → InOrder (x .calendar) t u
+  pub in-order : (y z : Float) (t u : ℤ) (i j : Bool) → T (le y z) → ReadsAt (uppinaloReadDouble (axisCode x) y) t i → ReadsAt (uppinaloReadDouble (axisCode x) z) u j → InOrder (x .calendar) t u
   -- doubles that are not finite
   pub not-a-number : uppinaloReadDouble (axisCode x) nan ≡ noReading NotFinite
   pub infinite : (s : Bool) → uppinaloReadDouble (axisCode x) (inf s) ≡ noReading NotFinite
@@ -311,12 +316,12 @@ pub record PastReference (x : Axis) : Type 0 where
 -- ---- instants that are given, and references of axes that are read, lie in the years -9999 to 9999
 
 pub record GivenInYears : Type 0 where
-  pub read-whole : (x : Axis) (n t : ℤ) (exact : Bool) → uppinaloReadWhole (axisCode x) n ≡ readAt t exact → inRange (x .calendar) t ≡ true
-  pub read-double : (x : Axis) (y : Float) (t : ℤ) (exact : Bool) → uppinaloReadDouble (axisCode x) y ≡ readAt t exact → inRange (x .calendar) t ≡ true
+  pub read-whole : (x : Axis) (n t : ℤ) (exact : Bool) → ReadsAt (uppinaloReadWhole (axisCode x) n) t exact → inRange (x .calendar) t ≡ true
+  pub read-double : (x : Axis) (y : Float) (t : ℤ) (exact : Bool) → ReadsAt (uppinaloReadDouble (axisCode x) y) t exact → inRange (x .calendar) t ≡ true
   pub read-wholes : (x : Axis) (xs ds : List ℤ) → uppinaloReadWholes (axisCode x) xs ds .number ≡ 0 → Each (λ (t : ℤ). inRange (x .calendar) t ≡ true) (take (length xs) (uppinaloReadWholesDestination (axisCode x) xs ds))
   pub read-doubles : (x : Axis) (xs : List Float) (ds : List ℤ) → uppinaloReadDoubles (axisCode x) xs ds .number ≡ 0 → Each (λ (t : ℤ). inRange (x .calendar) t ≡ true) (take (length xs) (uppinaloReadDoublesDestination (axisCode x) xs ds))
   pub read-datetime64 : (text s : List ℕ) (ds : List ℤ) → uppinaloReadDatetime64 text s ds .number ≡ 0 → Each (λ (t : ℤ). inRange ProlepticGregorian t ≡ true) (take (recordCount s) (uppinaloReadDatetime64Destination text s ds))
-  pub read-iso : (name text : List ℕ) (c : Calendar) (t : ℤ) (exact : Bool) → calendarOf name ≡ some c → uppinaloReadIso name text ≡ readAt t exact → inRange c t ≡ true
+  pub read-iso : (name text : List ℕ) (c : Calendar) (t : ℤ) (exact : Bool) → calendarOf name ≡ some c → ReadsAt (uppinaloReadIso name text) t exact → inRange c t ≡ true
   -- an axis that is read is the codes of one whose reference is good
   pub read-units : (name text : List ℕ) → uppinaloReadUnits name text .number ≡ 0 → (x : Axis) × (uppinaloReadUnits name text .axis ≡ axisCode x) × GoodReference x
   pub end-units : (s : UnitsState) (name : List ℕ) → uppinaloEndUnits s name .number ≡ 0 → (x : Axis) × (uppinaloEndUnits s name .axis ≡ axisCode x) × GoodReference x
@@ -332,6 +337,7 @@ pub record Demands : Type 0 where
   pub days-there : (x : Axis) → GoodReference x → x .period ≡ Period.Day → (n : ℤ) → (r : Date) × (d : Date) × DaysFromReference x n r d
   pub days : (x : Axis) (n : ℤ) (r d : Date) → DaysFromReference x n r d → DaysRead x n d
   pub writing : (x : Axis) → GoodReference x → WritingBack x
+  pub days-back : DaysBack
   pub refused-dates : RefusedDates
   pub texts : (name text : List ℕ) (c : Calendar) → length text ≤ 128 → calendarOf name ≡ some c → TextsByGrammar name text c
   pub before-texts : (name text : List ℕ) → TextsBeforeGrammar name text

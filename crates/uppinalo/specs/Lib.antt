@@ -6,6 +6,7 @@ pub mod Utc
 pub mod Offsets
 pub mod Runs
 pub mod Arrays
+pub mod DaysBack
 pub mod RefusedDates
 pub mod UtcTimes
 pub mod Demands

@@ -19,10 +19,10 @@ use Rattle.uppinalo.specs.declared.texts.UppinaloReading.{UppinaloReadin
 use Rattle.uppinalo.specs.declared.texts.UppinaloLengthAnswer.{UppinaloLengthAnswer}
 use Rattle.uppinalo.specs.declared.texts.UppinaloAxisAnswer.{UppinaloAxisAnswer}
 
--- an instant that is read from a text is exact
+-- an instant that is read from a text is exact, and no day is stepped back
 abbrev pub ofInstant : InstantAnswer → UppinaloReading
-ofInstant (InstantAnswer.Is t) = record { number = 0; instant = t; exact = true }
-ofInstant (InstantAnswer.Refused r) = record { number = numberOf r; instant = pos 0; exact = false }
+ofInstant (InstantAnswer.Is t) = record { number = 0; instant = t; exact = true; «days_back» = 0 }
+ofInstant (InstantAnswer.Refused r) = record { number = numberOf r; instant = pos 0; exact = false; «days_back» = 0 }
 
 abbrev pub uppinaloReadIso : List ℕ → List ℕ → UppinaloReading
 uppinaloReadIso calendar text = ofInstant (readIso calendar text)

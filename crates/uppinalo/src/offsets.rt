@@ -3,6 +3,7 @@ ghost use mathlib.Core.Path.{_≡_};
 ghost use Rattle.uppinalo.specs.Offsets.{noReading, ofReading, noOffset, ofOffset, uppinaloReadWhole, uppinaloReadDouble, uppinaloWriteInstant, uppinaloWriteFields};
 use crate::texts::UppinaloReading;
 use axis_types::OffsetAnswer;
+use axis_types::OffsetReading;
 use axis_types::Reading;
 use codes::CodedAxis;
 use codes::UppinaloAxis;
@@ -22,17 +23,20 @@ fn no_reading(r: Refusal) -> UppinaloReading
         number: refusal::number(r),
         instant: 0,
         exact: false,
+        days_back: 0,
     }
 }
 
-fn of_reading(a: Reading) -> UppinaloReading
-    ensures { λ r. ⌜ r ≡ ofReading a ⌝ }
+fn of_reading(a: OffsetReading) -> UppinaloReading
+    ensures { λ r. ⌜ r ≡ ofReading (a .reading) (a .«days_back») ⌝ }
 {
-    match a {
+    let reading = a.reading;
+    match reading {
         Reading::At(instant, exact) => return UppinaloReading {
             number: 0,
             instant,
             exact,
+            days_back: a.days_back,
         },
         Reading::Refused(r) => return no_reading(r),
     }

@@ -13,6 +13,7 @@ pub struct UppinaloReading {
     pub number: u32,
     pub instant: i64,
     pub exact: bool,
+    pub days_back: u32,
 }
 
 #[repr(C)]
@@ -35,16 +36,18 @@ fn of_instant(a: InstantAnswer) -> UppinaloReading
             number: 0,
             instant,
             exact: true,
+            days_back: 0,
         },
         InstantAnswer::Refused(r) => return UppinaloReading {
             number: refusal::number(r),
             instant: 0,
             exact: false,
+            days_back: 0,
         },
     }
 }
 
-// The instant of an ISO text, in the calendar of a name. What is read is exact.
+// The instant of an ISO text, in the calendar of a name. What is read is exact, and no day is stepped back.
 #[no_mangle]
 pub extern "C" fn uppinalo_read_iso(calendar: &[u8], text: &[u8]) -> UppinaloReading
     ensures { λ r. ⌜ r ≡ uppinaloReadIso (now (calendar .entry)) (now (text .entry)) ⌝ }

@@ -81,6 +81,7 @@ pub struct Reading {
     pub instant: i64,
     /// C's `bool`, taken as a byte: 1 for true, 0 for false.
     pub exact: u8,
+    pub days_back: u32,
 }
 
 #[repr(C)]

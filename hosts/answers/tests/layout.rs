@@ -25,7 +25,8 @@ fn arguments() {
 #[test]
 fn results() {
     assert_eq!((size_of::<AxisAnswer>(), offset_of!(AxisAnswer, axis)), (32, 8));
-    assert_eq!((size_of::<Reading>(), offset_of!(Reading, instant), offset_of!(Reading, exact)), (24, 8, 16));
+    assert_eq!(size_of::<Reading>(), 24);
+    assert_eq!([offset_of!(Reading, instant), offset_of!(Reading, exact), offset_of!(Reading, days_back)], [8, 16, 20]);
     assert_eq!((size_of::<OffsetAnswer>(), offset_of!(OffsetAnswer, offset)), (16, 8));
     assert_eq!((size_of::<FieldsAnswer>(), offset_of!(FieldsAnswer, fields)), (40, 8));
     assert_eq!((size_of::<DateAnswer>(), offset_of!(DateAnswer, date)), (24, 8));

@@ -14,5 +14,9 @@ fn main() -> Result<(), Box<dyn std::error::Error>> {
     if let Err(refusal) = axis.write_fields(Fields { hour: 12, ..fields }) {
         println!("1850-03-01, noon: refused {}", refusal.number());
     }
+    let axis = Axis::of_units("standard", "calendar months since 1930-01-31")?;
+    let reading = axis.read(1)?;
+    let text = axis.calendar.iso_text(reading.instant)?;
+    println!("1930-01-31 and a month: {text}, {} days back", reading.days_back);
     Ok(())
 }

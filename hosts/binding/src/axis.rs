@@ -66,16 +66,21 @@ impl From<f64> for Offset {
     }
 }
 
-/// An instant, and whether it is exactly what was read and not the nearest microsecond to it.
+/// What an offset or an ISO text is read as.
 #[derive(Clone, Copy, PartialEq, Eq, Debug)]
 pub struct Reading {
     pub instant: i64,
+    /// Whether the instant is exactly what was read and not the nearest microsecond to it.
     pub exact: bool,
+    /// The reference's day of the month less the given one: calendar months and years step a day that the month lacks back until it
+    /// exists, by at most 3 days, in October 1582 of `Standard` by at most 10. It is 0 in fixed mode, in shorter periods and for ISO texts.
+    pub days_back: u32,
 }
 
 impl Reading {
     pub(crate) fn of_answer(answer: answers::Reading) -> Result<Reading, Refusal> {
-        tested(answer.number).map(|()| Reading { instant: answer.instant, exact: answer.exact != 0 })
+        let answers::Reading { number, instant, exact, days_back } = answer;
+        tested(number).map(|()| Reading { instant, exact: exact != 0, days_back })
     }
 }
 

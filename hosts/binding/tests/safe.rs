@@ -170,7 +170,7 @@ fn iso() {
         return;
     }
     let text = "1969-12-31T12:00:00.000000Z";
-    assert_eq!(read_iso("", text), Ok(Reading { instant: -NOON, exact: true }));
+    assert_eq!(read_iso("", text), Ok(Reading { instant: -NOON, exact: true, days_back: 0 }));
     assert_eq!(Calendar::Standard.iso_text(-NOON).as_deref(), Ok(text));
     assert_eq!(Calendar::Standard.write_iso(0, &mut [0; 26]), Err(Refusal::NoRoom));
     assert_eq!(Calendar::Standard.iso_text(i64::MAX), Err(Refusal::OutOfRange));
@@ -182,13 +182,42 @@ fn one_offset() {
         return;
     }
     let days = axis(Calendar::Standard, Period::Day, Mode::Fixed, 0);
-    assert_eq!(days.read(-1), Ok(Reading { instant: -2 * NOON, exact: true }));
-    assert_eq!(days.read(0.5), Ok(Reading { instant: NOON, exact: true }));
-    assert_eq!(days.read(0.1), Ok(Reading { instant: 8_640_000_000, exact: false }));
+    let reading = |instant, exact| Ok(Reading { instant, exact, days_back: 0 });
+    assert_eq!(days.read(-1), reading(-2 * NOON, true));
+    assert_eq!(days.read(0.5), reading(NOON, true));
+    assert_eq!(days.read(0.1), reading(8_640_000_000, false));
     assert_eq!(days.read(2_932_897_i64), Err(Refusal::OutOfRange));
     assert_eq!(days.read(f64::NAN), Err(Refusal::NotFinite));
     let past = Axis { reference: i64::MAX, ..days };
     assert_eq!(past.read(f64::NAN), Err(Refusal::OutOfRange));
+}
+
+/// The day of the month goes back to the last that exists, and the reading says by how much.
+#[test]
+fn days_back() {
+    if !are_exported(&["read_units", "read_iso", "read_whole", "read_double"]) {
+        return;
+    }
+    let cases = [
+        ("standard", "calendar months since 1930-01-31", 1, "1930-02-28", 3),
+        ("standard", "calendar months since 1932-01-31", 1, "1932-02-29", 2),
+        ("standard", "calendar months since 1930-01-31", 2, "1930-03-31", 0),
+        ("standard", "calendar years since 2000-02-29", 1, "2001-02-28", 1),
+        ("standard", "calendar months since 1582-09-05", 1, "1582-10-04", 1),
+        ("standard", "calendar years since 1581-10-14", 1, "1582-10-04", 10),
+        ("standard", "calendar months since 1582-09-15", 1, "1582-10-15", 0),
+        ("julian", "calendar months since 1582-09-14", 1, "1582-10-14", 0),
+        ("360_day", "calendar months since 2023-01-30", 1, "2023-02-30", 0),
+        ("standard", "calendar days since 1930-01-31", 28, "1930-02-28", 0),
+        ("standard", "days since 1930-01-31", 28, "1930-02-28", 0),
+    ];
+    for (calendar, units, offset, date, days_back) in cases {
+        let axis = Axis::of_units(calendar, units).unwrap();
+        let at = Reading { days_back, ..read_iso(calendar, date).unwrap() };
+        assert_eq!(axis.read(offset), Ok(at), "{units}");
+        assert_eq!(axis.read(offset as f64), Ok(at), "{units}");
+        assert_eq!(read_iso(calendar, date).map(|reading| reading.days_back), Ok(0));
+    }
 }
 
 #[test]

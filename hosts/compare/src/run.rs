@@ -24,6 +24,8 @@ pub struct Run {
     kinds: BTreeMap<&'static str, Counts>,
     /// How many offsets were tried in each calendar and mode.
     spread: BTreeMap<(u32, u32), u64>,
+    /// How many readings were stepped back by so many days.
+    days_back: BTreeMap<u32, u64>,
     differences: u64,
     pub random: Random,
 }
@@ -35,8 +37,16 @@ impl Run {
     pub fn of(call: &'static str, scale: Scale) -> Run {
         let seed = call.bytes().fold(1582, |seed, byte| seed * 31 + byte as u64);
         println!("{call}");
-        let (start, random) = (Instant::now(), Random::seeded(seed));
-        Run { call, scale, start, kinds: BTreeMap::new(), spread: BTreeMap::new(), differences: 0, random }
+        Run {
+            call,
+            scale,
+            start: Instant::now(),
+            kinds: BTreeMap::new(),
+            spread: BTreeMap::new(),
+            days_back: BTreeMap::new(),
+            differences: 0,
+            random: Random::seeded(seed),
+        }
     }
 
     /// The number of inputs at this scale.
@@ -66,6 +76,13 @@ impl Run {
     pub fn on(&mut self, axis: Axis, offsets: u64) {
         if axis.calendar < 6 && axis.mode < 2 {
             *self.spread.entry((axis.calendar, axis.mode)).or_default() += offsets;
+        }
+    }
+
+    /// Takes down by how many days a reading was stepped back.
+    pub fn stepped_back(&mut self, days: u32) {
+        if days > 0 {
+            *self.days_back.entry(days).or_default() += 1;
         }
     }
 
@@ -102,6 +119,10 @@ impl Run {
         }
         if let (12, Some(least)) = (self.spread.len(), self.spread.values().min()) {
             println!("  {least} offsets or more in each calendar and mode");
+        }
+        if !self.days_back.is_empty() {
+            let counts: Vec<String> = self.days_back.iter().map(|(days, count)| format!("{count} by {days}")).collect();
+            println!("  stepped back, by so many days: {}", counts.join(", "));
         }
         println!(
             "  {} inputs, {} differences, {:.1} s",

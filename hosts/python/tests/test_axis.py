@@ -44,6 +44,24 @@ REFUSED = [
     ("standard", "", 3),
     ("standard", "days since 9999-12-31 23-01", 5),
 ]
+#: Offsets in calendar months and years, the date of each, and by how many days it was stepped back.
+STEPS = [
+    ("standard", "calendar months since 1930-01-31", 1, "1930-02-28", 3),
+    ("standard", "calendar months since 1930-01-31", 2, "1930-03-31", 0),
+    ("standard", "calendar months since 1930-01-31", -2, "1929-11-30", 1),
+    ("standard", "calendar months since 1932-01-31", 1, "1932-02-29", 2),
+    ("standard", "calendar months since 1582-09-04", 1, "1582-10-04", 0),
+    ("standard", "calendar months since 1582-09-05", 1, "1582-10-04", 1),
+    ("standard", "calendar months since 1582-09-14", 1, "1582-10-04", 10),
+    ("standard", "calendar months since 1582-09-15", 1, "1582-10-15", 0),
+    ("standard", "calendar years since 1581-10-14", 1, "1582-10-04", 10),
+    ("standard", "calendar years since 2000-02-29", 1, "2001-02-28", 1),
+    ("proleptic_gregorian", "calendar months since 1582-09-14", 1, "1582-10-14", 0),
+    ("julian", "calendar years since -5-02-29", 5, "0001-02-28", 1),
+    ("noleap", "calendar months since 2000-01-31", 1, "2000-02-28", 3),
+    ("all_leap", "calendar months since 1900-01-31", 1, "1900-02-29", 2),
+    ("360_day", "calendar months since 2023-01-30", 1, "2023-02-30", 0),
+]
 WHOLE = ("read_units", "read_whole", "write_iso")
 
 
@@ -84,6 +102,22 @@ class OneOffset(unittest.TestCase):
             text = expected if "T" in expected else f"{expected}T00:00:00.000000Z"
             reading = Axis(units, calendar=calendar).read(offset)
             self.assertEqual((reading.isoformat(), reading.exact), (text, True), units)
+
+    @needs(*WHOLE, "read_double", "read_iso")
+    def test_days_back(self):
+        for calendar, units, offset, date, days_back in STEPS:
+            axis = Axis(units, calendar=calendar)
+            at = read_iso(date, calendar)
+            self.assertEqual(axis.read(offset), Reading(at.instant, True, axis.calendar, days_back), units)
+            self.assertEqual(axis.read(float(offset)).days_back, days_back, units)
+            self.assertEqual((axis.read(0).days_back, at.days_back), (0, 0), units)
+
+    @needs(*WHOLE, "read_double")
+    def test_no_days_back_in_fixed_mode_and_shorter_periods(self):
+        for units in ("months since 1930-01-31", "years since 1932-02-29", "calendar days since 1930-01-31", "days since 1582-09-14"):
+            for offset in (0, 1, 20, 28, 1.0, -1):
+                self.assertEqual(Axis(units).read(offset).days_back, 0, units)
+        self.assertEqual(Axis("months since 1930-01-31").read(0.5).days_back, 0)
 
     @needs(*WHOLE, "read_double")
     def test_a_whole_float_is_read_as_the_int(self):

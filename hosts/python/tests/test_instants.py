@@ -91,6 +91,10 @@ class FieldsOfInstants(unittest.TestCase):
         reading = Reading(DAY, True, Calendar.ALL_LEAP)
         self.assertEqual(reading.fields, Fields(1970, 1, 2))
         self.assertNotEqual(reading, Reading(DAY, True, Calendar.NOLEAP))
+        moved = Reading(DAY, True, Calendar.ALL_LEAP, days_back=2)
+        self.assertNotEqual(reading, moved)
+        self.assertEqual((reading.days_back, moved.days_back, moved.fields), (0, 2, reading.fields))
+        self.assertIn("days_back=2", repr(moved))
 
 
 class Names(unittest.TestCase):

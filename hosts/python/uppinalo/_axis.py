@@ -5,7 +5,7 @@ from __future__ import annotations
 from typing import Any, Optional, Tuple, Union
 
 from ._codes import Calendar, Mode, Period
-from ._instants import CalendarOrName, Fields, Reading, calendar_of, field_numbers, fields_of, name_of
+from ._instants import CalendarOrName, Fields, Reading, calendar_of, field_numbers, fields_of, name_of, reading_of
 from ._lent import Lent
 from ._library import AxisAnswer, AxisCodes, call
 from ._numbers import Text, double, encoded, is_whole, signed
@@ -90,14 +90,17 @@ class Axis:
         return Axis.of, self._key
 
     def read(self, offset: Union[int, float]) -> Reading:
-        """The instant of one offset. An int is a whole offset; a float is read by its exact value, to the nearest microsecond."""
+        """The instant of one offset. An int is a whole offset; a float is read by its exact value, to the nearest microsecond.
+
+        On an axis of calendar months or years the reading's ``days_back`` says how far the day of the month was moved.
+        """
         if is_whole(offset):
             answer = call["read_whole"](self._codes, signed(offset, "an offset"))
         else:
             answer = call["read_double"](self._codes, double(offset))
         if answer.number:
             raise Refused(answer.number, f"offset {offset!r}")
-        return Reading(answer.instant, answer.exact != 0, self.calendar)
+        return reading_of(answer, self.calendar)
 
     def read_run(self, offsets: Offsets, out: Optional[Instants] = None) -> Run:
         """The instants of many offsets: all of them, or none and a refusal with the place of the first refused offset.

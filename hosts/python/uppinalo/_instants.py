@@ -8,7 +8,7 @@ import functools
 from typing import NamedTuple, Union
 
 from ._codes import Calendar
-from ._library import DateNumbers, FieldNumbers, call
+from ._library import DateNumbers, FieldNumbers, ReadingAnswer, call
 from ._numbers import Text, encoded, signed, unsigned
 from ._refused import Refused
 
@@ -104,11 +104,21 @@ def write_iso(instant: int, calendar: CalendarOrName) -> str:
 
 @dataclasses.dataclass(frozen=True)
 class Reading:
-    """An instant of a calendar, and whether it is exactly what was read and not the nearest microsecond to it."""
+    """An instant of a calendar, and whether it is exactly what was read and not the nearest microsecond to it.
+
+    Calendar months and years step a day that the month lacks back until it exists. ``days_back`` is by how many days: the
+    reference's day of the month less the given one, at most 3, and in October 1582 of ``standard`` at most 10. It is 0 in
+    fixed mode, in shorter periods and for ISO texts.
+
+    >>> reading = Axis("calendar months since 1930-01-31").read(1)
+    >>> reading.isoformat(), reading.days_back
+    ('1930-02-28T00:00:00.000000Z', 3)
+    """
 
     instant: int
     exact: bool
     calendar: Calendar
+    days_back: int = 0
 
     @property
     def fields(self) -> Fields:
@@ -120,6 +130,11 @@ class Reading:
         return write_iso(self.instant, self.calendar)
 
 
+def reading_of(answer: ReadingAnswer, calendar: Calendar) -> Reading:
+    """The reading in a calendar that an answer without a refusal holds."""
+    return Reading(answer.instant, answer.exact != 0, calendar, answer.days_back)
+
+
 def read_iso(text: Text, calendar: CalendarOrName = Calendar.STANDARD) -> Reading:
     """The instant that an ISO text names in a calendar. The text has a year, and may have a month, a day, a time and a zone."""
     name = name_of(calendar)
@@ -127,4 +142,4 @@ def read_iso(text: Text, calendar: CalendarOrName = Calendar.STANDARD) -> Readin
     answer = call["read_iso"](name_bytes, len(name_bytes), text_bytes, len(text_bytes))
     if answer.number:
         raise Refused(answer.number, f"ISO text {text!r}, calendar {name!r}")
-    return Reading(answer.instant, answer.exact != 0, calendar_of(calendar))
+    return reading_of(answer, calendar_of(calendar))

@@ -42,7 +42,7 @@ class AxisAnswer(Structure):
 
 
 class ReadingAnswer(Structure):
-    _fields_ = [("number", c_uint32), ("instant", c_int64), ("exact", c_uint8)]
+    _fields_ = [("number", c_uint32), ("instant", c_int64), ("exact", c_uint8), ("days_back", c_uint32)]
 
 
 class OffsetAnswer(Structure):

@@ -1,6 +1,7 @@
 //! Inputs for comparisons and measurements, drawn from a seed, so that they are the same on every machine.
 
 pub mod borders;
+pub mod calendar_steps;
 pub mod damage;
 pub mod dates;
 pub mod datetime64;

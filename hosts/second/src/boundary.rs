@@ -27,7 +27,7 @@ pub fn end_units(state: &mut answers::UnitsState, calendar: &[u8]) -> answers::A
 }
 
 pub fn read_iso(calendar: &[u8], text: &[u8]) -> answers::Reading {
-    reading_answer(iso::read_iso(calendar, text).map(|instant| Reading { instant, exact: true }))
+    reading_answer(iso::read_iso(calendar, text).map(|instant| Reading { instant, exact: true, days_back: 0 }))
 }
 
 pub fn write_iso(calendar: u32, instant: i64, room: &mut [u8]) -> answers::LengthAnswer {

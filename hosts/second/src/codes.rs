@@ -51,7 +51,9 @@ pub fn fields_of_numbers(numbers: answers::Fields) -> Fields {
 
 pub fn reading_answer(result: Result<Reading, Refusal>) -> answers::Reading {
     match result {
-        Ok(Reading { instant, exact }) => answers::Reading { number: 0, instant, exact: exact as u8 },
+        Ok(Reading { instant, exact, days_back }) => {
+            answers::Reading { number: 0, instant, exact: exact as u8, days_back }
+        }
         Err(refusal) => answers::Reading { number: refusal.number(), ..Default::default() },
     }
 }

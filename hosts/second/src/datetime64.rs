@@ -32,8 +32,8 @@ pub fn read_number(unit: Unit, number: i64) -> Result<i64, Refusal> {
     }
     let from_1970 = |period| Axis { calendar: CALENDAR, period, mode: Mode::Calendar, reference: 0 };
     let count = match unit {
-        Unit::Year => moved_by_years(from_1970(Period::Year), number)?,
-        Unit::Month => moved_by_months(from_1970(Period::Month), number)?,
+        Unit::Year => moved_by_years(from_1970(Period::Year), number)?.count,
+        Unit::Month => moved_by_months(from_1970(Period::Month), number)?.count,
         Unit::Fixed(length) => number as i128 * length as i128,
         Unit::Decimals(decimals) => without_decimals(number, decimals)?,
     };

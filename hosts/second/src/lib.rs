@@ -2,6 +2,7 @@
 //! compared.
 //!
 //! - Day numbers come from a table that the next-day rule fills day by day (`days`).
+//! - A day of the month that a calendar step does not find is stepped back day by day, and the steps are counted (`calendar_mode`).
 //! - The months and days that are possible are those that a walk through the calendars meets (`fields`).
 //! - A double is an exact fraction of big integers (`dyadic`), and rounding compares exact remainders (`nearest`).
 //! - A text is matched in every way that its grammar allows (`ways`, `date_text`, `units_text`, `datetime64_type`).

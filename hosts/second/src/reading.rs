@@ -1,7 +1,7 @@
-//! One offset read on an axis (document 01, "Periods", "Numbers returned").
+//! One offset read on an axis (document 01, "Periods", "Numbers returned"; document 02, CR 7).
 
 use crate::axis::{Axis, Mode, Period};
-use crate::calendar_mode::{moved_by_months, moved_by_years};
+use crate::calendar_mode::{TimeReached, moved_by_months, moved_by_years};
 use crate::dyadic::Dyadic;
 use crate::instant::{fields_of, instant_of_count};
 use crate::nearest::nearest_count;
@@ -11,6 +11,7 @@ use crate::refusal::Refusal;
 pub struct Reading {
     pub instant: i64,
     pub exact: bool,
+    pub days_back: u32,
 }
 
 /// Every call on an axis asks first that its reference is in range.
@@ -20,12 +21,15 @@ pub fn tested(axis: Axis) -> Result<(), Refusal> {
 
 pub fn read_whole(axis: Axis, offset: i64) -> Result<Reading, Refusal> {
     tested(axis)?;
-    let count = match (axis.mode, axis.period) {
+    let TimeReached { count, days_back } = match (axis.mode, axis.period) {
         (Mode::Calendar, Period::Month) => moved_by_months(axis, offset)?,
         (Mode::Calendar, Period::Year) => moved_by_years(axis, offset)?,
-        _ => axis.reference as i128 + offset as i128 * axis.period.microseconds() as i128,
+        _ => {
+            let displacement = offset as i128 * axis.period.microseconds() as i128;
+            TimeReached { count: axis.reference as i128 + displacement, days_back: 0 }
+        }
     };
-    Ok(Reading { instant: instant_of_count(axis.calendar, count)?, exact: true })
+    Ok(Reading { instant: instant_of_count(axis.calendar, count)?, exact: true, days_back })
 }
 
 pub fn read_double(axis: Axis, offset: f64) -> Result<Reading, Refusal> {
@@ -42,7 +46,7 @@ fn read_fraction(axis: Axis, offset: &Dyadic) -> Result<Reading, Refusal> {
     let nearest = nearest_count(&time, axis.reference);
     let count = nearest.count.to_i128().ok_or(Refusal::OutOfRange)?;
     let instant = instant_of_count(axis.calendar, count)?;
-    Ok(Reading { instant, exact: nearest.exact })
+    Ok(Reading { instant, exact: nearest.exact, days_back: 0 })
 }
 
 /// A fraction as a whole 64-bit offset.

@@ -46,19 +46,23 @@ fn axis(period: Period, mode: Mode, reference: i64) -> Axis {
     Axis { calendar: Calendar::ProlepticGregorian, period, mode, reference }
 }
 
+fn reading(instant: i64, exact: bool) -> Reading {
+    Reading { instant, exact, days_back: 0 }
+}
+
 #[test]
 fn ties_go_to_the_even_displacement() {
     let read = |x: f64, reference| read_double(axis(Period::Millisecond, Mode::Fixed, reference), x).unwrap();
     for (x, displacement) in [(1.0 / 16.0, 62), (3.0 / 16.0, 188), (5.0 / 16.0, 312), (0.5 / 1024.0, 0), (0.0005, 1)] {
         for reference in [0, 1, -1, -62, 1_000_001] {
-            assert_eq!(read(x, reference), Reading { instant: reference + displacement, exact: false }, "{x}");
-            assert_eq!(read(-x, reference), Reading { instant: reference - displacement, exact: false }, "-{x}");
+            assert_eq!(read(x, reference), reading(reference + displacement, false), "{x}");
+            assert_eq!(read(-x, reference), reading(reference - displacement, false), "-{x}");
         }
     }
-    assert_eq!(read(0.125, 3), Reading { instant: 128, exact: true });
-    assert_eq!(read(f64::from_bits(1), 3), Reading { instant: 3, exact: false });
-    assert_eq!(read(-f64::from_bits(1), -3), Reading { instant: -3, exact: false });
-    assert_eq!(read(-0.0, 3), Reading { instant: 3, exact: true });
+    assert_eq!(read(0.125, 3), reading(128, true));
+    assert_eq!(read(f64::from_bits(1), 3), reading(3, false));
+    assert_eq!(read(-f64::from_bits(1), -3), reading(-3, false));
+    assert_eq!(read(-0.0, 3), reading(3, true));
 }
 
 /// Rounding comes before the range: a time past the last microsecond may still round to it.
@@ -66,7 +70,7 @@ fn ties_go_to_the_even_displacement() {
 fn range_after_rounding() {
     let last = 253_402_300_799_999_999;
     let read = |x: f64| read_double(axis(Period::Millisecond, Mode::Fixed, last), x);
-    assert_eq!(read(1.0 / 4096.0), Ok(Reading { instant: last, exact: false }));
+    assert_eq!(read(1.0 / 4096.0), Ok(reading(last, false)));
     assert_eq!(read(1.0 / 1024.0), Err(Refusal::OutOfRange));
     assert_eq!(read(f64::MAX), Err(Refusal::OutOfRange));
     assert_eq!(read(f64::MIN), Err(Refusal::OutOfRange));

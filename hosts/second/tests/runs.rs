@@ -57,6 +57,6 @@ fn dates_and_days() {
     assert_eq!(day_number_of_date(0, Date { year: 1582, month: 10, day: 10 }), DayAnswer { number: 13, day: 0 });
     assert_eq!(day_number_of_date(0, Date { year: 10_000, month: 13, day: 1 }).number, 5);
     assert_eq!(fields_of(3, i64::MIN).number, 5);
-    assert_eq!(read_iso(b"", b"1970-01-01"), Reading { number: 0, instant: 0, exact: 1 });
-    assert_eq!(read_iso(b"", b"1970-02-30"), Reading { number: 12, instant: 0, exact: 0 });
+    assert_eq!(read_iso(b"", b"1970-01-01"), Reading { exact: 1, ..Default::default() });
+    assert_eq!(read_iso(b"", b"1970-02-30"), Reading { number: 12, ..Default::default() });
 }

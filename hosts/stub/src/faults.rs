@@ -2,6 +2,7 @@
 
 pub mod dates;
 pub mod datetime64;
+pub mod days_back;
 pub mod fragments;
 pub mod tt2000;
 
@@ -46,7 +47,7 @@ pub fn read_whole_wrapping(axis: Axis, offset: i64) -> Reading {
     let period = second::axis::PERIODS[axis.period as usize].microseconds();
     let instant = axis.reference.wrapping_add(offset.wrapping_mul(period));
     match boundary::fields_of(axis.calendar, instant).number {
-        0 => Reading { number: 0, instant, exact: 1 },
+        0 => Reading { instant, exact: 1, ..Default::default() },
         number => Reading { number, ..Default::default() },
     }
 }

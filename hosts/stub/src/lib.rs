@@ -54,7 +54,7 @@ unsafe extern "C" fn uppinalo_read_iso(name: *const u8, name_len: usize, text: *
     if faults::is_on("read_iso_lower_case") {
         return faults::read_iso_lower_case(name, text);
     }
-    faults::dates::read_iso(name, text)
+    faults::days_back::of_text(name, faults::dates::read_iso(name, text))
 }
 
 #[unsafe(no_mangle)]
@@ -104,7 +104,7 @@ extern "C" fn uppinalo_read_whole(axis: Axis, offset: i64) -> Reading {
     if faults::is_on("read_whole_julian_year_0_counted") {
         return faults::read_whole_julian_year_0_counted(axis, offset);
     }
-    boundary::read_whole(axis, offset)
+    faults::days_back::read_whole(axis, offset)
 }
 
 #[unsafe(no_mangle)]
@@ -112,7 +112,7 @@ extern "C" fn uppinalo_read_double(axis: Axis, offset: f64) -> Reading {
     if faults::is_on("read_double_by_the_machine") {
         return faults::read_double_by_the_machine(axis, offset);
     }
-    boundary::read_double(axis, offset)
+    faults::days_back::read_double(axis, offset)
 }
 
 #[unsafe(no_mangle)]

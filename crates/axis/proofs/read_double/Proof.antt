@@ -1,19 +1,27 @@
 -- `axis::read_double` meets its contract: the check of the axis first.
 use mathlib.Core.Path.{_≡_, sym, ap, _∙_}
+use lib.Ieee.{Float}
+use Rattle.axis_types.specs.Reading.{withDaysBack}
+use Rattle.axis_types.specs.declared.Axis.{Axis}
+use Rattle.axis_types.specs.declared.OffsetReading.{OffsetReading}
 use Rattle.axis_types.specs.declared.Reading.{Reading}
-use Rattle.axis.specs.Axis.{onGood, doubleOn, readDoubleOn}
+use Rattle.axis.specs.Axis.{onGood, doubleOn, readDoubleOn, doubleBack}
 use Rattle.axis.specs.declared.AxisCheck.{AxisCheck}
 use Rattle.axis.proofs.Laws.{in-good}
 use borrow.Author.Needs.{needs}
 use Rattle.axis.proofs.read_double.Statement.{statement}
 use Rattle.axis.proofs.read_double.Tie as tie
 
-settled : (k : tie.After-check-axis) (a : AxisCheck) → k .check-axis .result ≡ a → onGood a Reading.Refused (doubleOn (k .before .args .axis) (k .before .args .x)) ≡ readDoubleOn (k .before .args .axis) (k .before .args .x)
+-- by the check
+abbrev read : Axis → Float → AxisCheck → OffsetReading
+read a x k = withDaysBack (onGood k Reading.Refused (doubleOn a x)) (doubleBack a x)
+
+settled : (k : tie.After-check-axis) (a : AxisCheck) → k .check-axis .result ≡ a → read (k .before .args .axis) (k .before .args .x) a ≡ withDaysBack (readDoubleOn (k .before .args .axis) (k .before .args .x)) (doubleBack (k .before .args .axis) (k .before .args .x))
 unfolding readDoubleOn
-settled k a e = ap (λ (a : AxisCheck). onGood a Reading.Refused (doubleOn (k .before .args .axis) (k .before .args .x))) (sym e ∙ k .check-axis .ensures)
+settled k a e = ap (read (k .before .args .axis) (k .before .args .x)) (sym e ∙ k .check-axis .ensures)
 
 returns : tie.Need-returns
-returns c = settled (c .before .before .before) _ (c .before .r .given .1)
+returns c = let k = c .before .before in c .unmoved .ensures ∙ settled (k .before .before) _ (k .r .given .1)
 
 read-double-on-requires : tie.Need-read-double-on-requires
 read-double-on-requires c κs = let k = c .before .before in in-good (k .before .args .axis) (sym (c .enum-told .given .1) ∙ k .check-axis .ensures)
@@ -29,6 +37,7 @@ read-double-spec =
     (tie.spec
     (λ c κs. search needs)
     (λ c. search needs)
+    (λ c κs. search needs)
     returns
     (λ c. search needs)
     read-double-on-requires

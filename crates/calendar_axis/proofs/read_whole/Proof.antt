@@ -3,6 +3,8 @@ use mathlib.Core.Path.{ap, _∙_, subst}
 use lib.IntN.{ℤ}
 use mir.Syntax.{w64}
 use mir.ValLaws.{toZ-ofZ}
+use Rattle.axis_types.specs.Reading.{withDaysBack}
+use Rattle.step.specs.Steps.{daysBack}
 use Rattle.calendar_axis.specs.Steps.{readSteps}
 use Rattle.calendar_axis.specs.Start.{StartOf}
 use Rattle.calendar_axis.proofs.Demands.{start-time, from-start}
@@ -21,8 +23,11 @@ returns : tie.Need-returns
 returns c =
     let b = c .before in
     let a = b .before .args in
+    let n-is = toZ-ofZ w64 (a .n) (b .before .fits .n) in
     c .read-from .ensures
-    ∙ (from-start (a .part) (a .c) (a .reference) (b .start-of .result) _ (started b) ∙ ap (readSteps (a .part) (a .c) (a .reference)) (toZ-ofZ w64 (a .n) (b .before .fits .n)))
+    ∙ (λ i. withDaysBack
+    ((from-start (a .part) (a .c) (a .reference) (b .start-of .result) _ (started b) ∙ ap (readSteps (a .part) (a .c) (a .reference)) n-is) i)
+    (daysBack (a .part) (a .c) (n-is i) (started b .date i)))
 
 pub read-whole-spec : {M : Type 1} → statement M
 read-whole-spec =

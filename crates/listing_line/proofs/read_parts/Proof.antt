@@ -1,6 +1,7 @@
 -- `listing_line::read_parts` meets its contract.
 use borrow.Author.Needs.{needs}
 use mathlib.Core.Path.{sym, ap, _∙_}
+use Rattle.axis_types.specs.declared.OffsetReading.{OffsetReading}
 use Rattle.axis_text.specs.declared.AxisAnswer.{AxisAnswer}
 use Rattle.listing_line.specs.Line.{lineReading, onAxis}
 use Rattle.listing_line.proofs.read_parts.Statement.{statement}
@@ -32,7 +33,7 @@ returns-2 c =
     let u = k .before .before .before in
     let g = k .before .axis .given in
     c .of-reading .ensures
-    ∙ (ap (lineReading (g .0 .0 .calendar)) (c .before .read .ensures) ∙ ap (λ (x : AxisAnswer). onAxis x (u .before .before .before .args .offset)) (sym (g .1) ∙ u .read-units .ensures))
+    ∙ (ap (λ (r : OffsetReading). lineReading (g .0 .0 .calendar) (r .reading)) (c .before .read .ensures) ∙ ap (λ (x : AxisAnswer). onAxis x (u .before .before .before .args .offset)) (sym (g .1) ∙ u .read-units .ensures))
 
 pub read-parts-spec : {M : Type 1} → statement M
 read-parts-spec =

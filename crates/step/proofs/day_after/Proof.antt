@@ -75,8 +75,9 @@ day-in-requires c κs =
 
 returns : tie.Need-returns
 returns c =
-    let d = c .day-in in
-    ap (dateOf (s (c .before) .args .c)) (toZ-ofZ w64 (d .result) (record { sfits = d .ok })) ∙ (d .ensures ∙ date-is (c .before))
+    let d = c .before .day-in in
+    let m = c .before .before in
+    ap (dateOf (s m .args .c)) (toZ-ofZ w64 (d .result .number) (search needs)) ∙ (d .ensures .0 ∙ date-is m)
 
 pub day-after-spec : {M : Type 1} → statement M
 day-after-spec =

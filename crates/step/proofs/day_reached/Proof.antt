@@ -14,9 +14,11 @@ use Rattle.calendar.specs.Answers.{dayAnswer}
 use Rattle.calendar.specs.declared.Date.{Date}
 use Rattle.calendar.specs.declared.DayAnswer.{DayAnswer}
 use Rattle.calendar.proofs.Answering.{year-out, date-there}
+use Rattle.step.specs.Answers.{steppedBack}
 use Rattle.step.specs.Closed.{monthAt, monthCount, monthsOf}
-use Rattle.step.specs.Steps.{dateDown, dateAfter}
-use Rattle.step.proofs.Answering.{far-below, far-above, raised-is, month-inside, count-small, date-at, year-before, year-past, year-between}
+use Rattle.step.specs.Steps.{stepsDown, dateDown, dateAfter, daysBack}
+use Rattle.step.specs.declared.DayReached.{DayReached}
+use Rattle.step.proofs.Answering.{far-below, far-above, raised-is, month-inside, count-small, date-at, back-at, year-before, year-past, year-between}
 use Rattle.step.proofs.Existing.{dates-there}
 use borrow.Author.Needs.{needs}
 use Rattle.step.proofs.day_reached.Statement.{statement}
@@ -41,9 +43,12 @@ module _ (b : tie.After-biased) where
   offset-is : unbiased k ≡ start .args .n
   offset-is = crossed (start .args .n) k (start .fits .n) (b .biased .ensures)
 
+  abbrev back : ℤ → ℕ
+  back z = daysBack (start .args .part) (start .args .c) z (start .args .x)
+
   -- a date past the years is refused
-  past : (z : ℤ) → z ≡ unbiased k → inYears (moved z .year) ≡ false → DayAnswer.Refused OutOfRange ≡ dayAnswer (start .args .c) (moved (start .args .n))
-  past z e h = year-out true (start .args .c) (moved z) h ∙ ap (λ (u : ℤ). dayAnswer (start .args .c) (moved u)) (e ∙ offset-is)
+  past : (z : ℤ) → z ≡ unbiased k → inYears (moved z .year) ≡ false → DayReached.Refused OutOfRange ≡ steppedBack (dayAnswer (start .args .c) (moved (start .args .n))) (back (start .args .n))
+  past z e h = ap (λ (a : DayAnswer). steppedBack a (back (start .args .n))) (year-out true (start .args .c) (moved z) h ∙ ap (λ (u : ℤ). dayAnswer (start .args .c) (moved u)) (e ∙ offset-is))
 
 -- the month that is reached
 module _ (m : tie.After-month-after) where
@@ -73,10 +78,21 @@ module _ (e : tie.Else4) where
   abbrev date : Date
   date = moved (at found) (s found .args .n)
 
-  date-is : dateDown (s found .args .c) (monthAt (s found .args .c) (found .month-after .result - 2880000)) (s found .args .x .day) ≡ date
+  abbrev month : ℕ
+  month = found .month-after .result - 2880000
+
+  month-is : month + 240000 * monthsOf (s found .args .part) ≡ count (at found) + steps found * monthsOf (s found .args .part)
+  month-is = omega (arith, reached found, e .before .if3 .left)
+
+  date-is : dateDown (s found .args .c) (monthAt (s found .args .c) month) (s found .args .x .day) ≡ date
   date-is =
-      date-at (s found .args .c) (s found .args .x) (s found .args .y) (s found .pre) (s found .args .part) (steps found) 240000 (found .month-after .result - 2880000) (omega (arith, reached found, e .before .if3 .left))
+      date-at (s found .args .c) (s found .args .x) (s found .args .y) (s found .pre) (s found .args .part) (steps found) 240000 month month-is
       ∙ ap (moved (at found)) (steps-is found ∙ offset-is (at found))
+
+  back-is : stepsDown (s found .args .c) (monthAt (s found .args .c) month .year) (monthAt (s found .args .c) month .month) (s found .args .x .day) ≡ back (at found) (s found .args .n)
+  back-is =
+      back-at (s found .args .c) (s found .args .x) (s found .args .y) (s found .pre) (s found .args .part) (steps found) 240000 month month-is
+      ∙ ap (back (at found)) (steps-is found ∙ offset-is (at found))
 
   there : exists (s found .args .c) date ≡ true
   there = dates-there (s found .args .c) (s found .args .part) (s found .args .x) (s found .pre .date .there) (s found .args .n)
@@ -125,9 +141,11 @@ day-in-requires c κs = (omega (arith, c .if4 .left), ap (exists (s (found c) .a
 
 returns-5 : tie.Need-returns-5
 returns-5 c =
-    let e = c .before in
-    let d = c .day-in in
-    ap DayAnswer.Is (toZ-ofZ w64 (d .result) (record { sfits = d .ok })) ∙ date-there (s (found e) .args .c) (date e) (d .result) (inside e) (there e) (d .ensures ∙ date-is e)
+    let e = c .before .before in
+    let d = c .before .day-in in
+    λ i. steppedBack
+    ((ap DayAnswer.Is (toZ-ofZ w64 (d .result .number) (search needs)) ∙ date-there (s (found e) .args .c) (date e) (d .result .number) (inside e) (there e) (d .ensures .0 ∙ date-is e)) i)
+    ((d .ensures .1 ∙ back-is e) i)
 
 pub day-reached-spec : {M : Type 1} → statement M
 day-reached-spec =

@@ -4,6 +4,7 @@ use Prim.Native.Nat.{_-_}
 use lib.ListN.{length, getD}
 use lib.Ieee.{Float, nan}
 use Rattle.axis_types.specs.Reading.{refusalOf}
+use Rattle.axis_types.specs.declared.OffsetReading.{OffsetReading}
 use Rattle.axis_types.specs.declared.Reading.{Reading}
 use Rattle.axis.specs.Axis.{readDoubleOn}
 use Rattle.runs.proofs.Passes.{Checking, checking-starts, checking-on, checking-stops, checking-ends}
@@ -18,8 +19,8 @@ abbrev μ-loop : tie.MeasureT-loop
 μ-loop axis source i₀ i = length source - i
 
 -- what is refused of the offset at the place
-reading : (o : tie.After-read-double Inv-loop μ-loop) {r : Reading} → o .read-double .result ≡ r → let l = o .before .before .before in refusalOf (readDoubleOn (l .before .before .args .axis) (getD (l .before .before .args .source .now) (l .loop .i) nan)) ≡ refusalOf r
-reading o h = ap refusalOf (sym (o .read-double .ensures) ∙ h)
+reading : (o : tie.After-read-double Inv-loop μ-loop) {r : Reading} → o .read-double .result .reading ≡ r → let l = o .before .before .before in refusalOf (readDoubleOn (l .before .before .args .axis) (getD (l .before .before .args .source .now) (l .loop .i) nan)) ≡ refusalOf r
+reading o h = ap refusalOf (sym (ap (λ (a : OffsetReading). a .reading) (o .read-double .ensures)) ∙ h)
 
 loop-holds : tie.Need-loop-holds Inv-loop μ-loop
 loop-holds c = checking-starts

@@ -6,6 +6,7 @@ use lib.ListN.{length, getD}
 use mir.Syntax.{w64}
 use mir.ValLaws.{toZ-ofZ}
 use Rattle.axis_types.specs.Reading.{refusalOf}
+use Rattle.axis_types.specs.declared.OffsetReading.{OffsetReading}
 use Rattle.axis_types.specs.declared.Reading.{Reading}
 use Rattle.axis.specs.Axis.{readWholeOn}
 use Rattle.runs.proofs.Passes.{Checking, checking-starts, checking-on, checking-stops, checking-ends}
@@ -20,8 +21,8 @@ abbrev μ-loop : tie.MeasureT-loop
 μ-loop axis source i₀ i = length source - i
 
 -- what is refused of the offset at the place
-reading : (o : tie.After-read-whole Inv-loop μ-loop) {r : Reading} → o .read-whole .result ≡ r → let l = o .before .before .before in refusalOf (readWholeOn (l .before .args .axis) (getD (l .before .args .source .now) (l .loop .i) (pos 0))) ≡ refusalOf r
-reading o h = let l = o .before .before .before in ap refusalOf (sym (o .read-whole .ensures ∙ ap (readWholeOn (l .before .args .axis)) (toZ-ofZ w64 (getD (l .before .args .source .now) (l .loop .i) (pos 0)) (record { sfits = o .before .read-whole-arg .given }))) ∙ h)
+reading : (o : tie.After-read-whole Inv-loop μ-loop) {r : Reading} → o .read-whole .result .reading ≡ r → let l = o .before .before .before in refusalOf (readWholeOn (l .before .args .axis) (getD (l .before .args .source .now) (l .loop .i) (pos 0))) ≡ refusalOf r
+reading o h = let l = o .before .before .before in ap refusalOf (sym (ap (λ (a : OffsetReading). a .reading) (o .read-whole .ensures) ∙ ap (readWholeOn (l .before .args .axis)) (toZ-ofZ w64 (getD (l .before .args .source .now) (l .loop .i) (pos 0)) (record { sfits = o .before .read-whole-arg .given }))) ∙ h)
 
 loop-holds : tie.Need-loop-holds Inv-loop μ-loop
 loop-holds c = checking-starts

@@ -6,7 +6,7 @@ use Rattle.uppinalo.proofs.offsets.no_reading.Statement.{statement}
 use Rattle.uppinalo.proofs.offsets.no_reading.Tie as tie
 
 returns : tie.Need-returns
-returns c = λ i. record { number = c .number .ensures i; instant = pos 0; exact = false }
+returns c = λ i. record { number = c .number .ensures i; instant = pos 0; exact = false; «days_back» = 0 }
 
 pub no-reading-spec : {M : Type 1} → statement M
 no-reading-spec =
