@@ -4,7 +4,7 @@
 use bench::measure::{calendars, datetime64, fragments, listing, offsets, runs, texts, tt2000};
 use bench::timing;
 
-const MEASUREMENTS: [(&str, fn()); 14] = [
+const MEASUREMENTS: [(&str, fn()); 15] = [
     ("dates", calendars::dates),
     ("days", calendars::days),
     ("fields", calendars::fields),
@@ -12,6 +12,7 @@ const MEASUREMENTS: [(&str, fn()); 14] = [
     ("doubles", runs::doubles),
     ("wholes", runs::wholes),
     ("iso", texts::iso),
+    ("iso_read", texts::iso_read),
     ("units", texts::units),
     ("writing", offsets::writing),
     ("listing", listing::lines),

@@ -67,7 +67,7 @@ fn dates() {
     }
 }
 
-/// Mistyped, missing and dropped dates, and several faults at once, as dates, as fields and in units texts.
+/// Mistyped, missing and dropped dates, and several faults at once, as dates, as fields and in texts.
 #[test]
 fn dates_at_borders() {
     let mut random = Random::seeded(18);
@@ -78,6 +78,7 @@ fn dates_at_borders() {
         assert_eq!(plain::writing::write_fields(axis, fields), boundary::write_fields(axis, fields), "{fields:?}");
         let (name, text) = borders::text(&mut random, calendar, date);
         read_units(name, &format!("s since {text}"));
+        read_iso(name, &text);
     }
 }
 
@@ -129,8 +130,13 @@ fn read_units(name: &str, text: &str) {
     assert_eq!(answer, boundary::read_units(name.as_bytes(), text.as_bytes()), "{name} {text}");
 }
 
+fn read_iso(name: &str, text: &str) {
+    let answer = unsafe { plain::units::read_iso(name.as_ptr(), name.len(), text.as_ptr(), text.len()) };
+    assert_eq!(answer, boundary::read_iso(name.as_bytes(), text.as_bytes()), "{name} {text}");
+}
+
 #[test]
-fn units() {
+fn units_and_dates() {
     let mut random = Random::seeded(15);
     let starts =
         ["days since ", "calendar  mons SINCE ", "ss since ", "s since ", "secs since ", "CALENDAR yrs since  "];
@@ -150,8 +156,9 @@ fn units() {
     let zones = ["", "Z", " utc", " +01:30", "-0130", "+24", "-00:60", " +1", "+01:", "  Z", "-23:59"];
     for _ in 0..COUNT {
         let name = random.pick(&["", "standard", "julian", "360_day", "noleap", "366_day", "ISO8601", "tai"]);
-        let text = [&starts[..], &dates, &times, &zones].map(|list| random.pick(list)).concat();
-        read_units(name, &text);
+        let date = [&dates[..], &times, &zones].map(|list| random.pick(list)).concat();
+        read_iso(name, &date);
+        read_units(name, &[random.pick(&starts), &date].concat());
     }
 }
 

@@ -1,13 +1,13 @@
-//! ISO text written and units text read.
+//! ISO text written and read, and units text read.
 
 use super::{each_span, summed};
 use crate::plain;
 use crate::timing::{compare, print_missing};
-use answers::{AxisAnswer, LengthAnswer};
+use answers::{AxisAnswer, LengthAnswer, Reading};
 use uppinalo::{is_exported, raw};
 
 type WriteIso = unsafe extern "C" fn(u32, i64, *mut u8, usize) -> LengthAnswer;
-type ReadUnits = unsafe extern "C" fn(*const u8, usize, *const u8, usize) -> AxisAnswer;
+type Read<T> = unsafe extern "C" fn(*const u8, usize, *const u8, usize) -> T;
 
 /// The room is not cleared between.
 pub fn iso() {
@@ -47,11 +47,28 @@ pub fn units() {
         return print_missing("units text read");
     }
     let inputs = TEXTS.repeat(512);
-    let sum = |call: ReadUnits| {
+    let sum = |call: Read<AxisAnswer>| {
         summed(&inputs, call, |call, (name, text)| {
             axis_sum(unsafe { call(name.as_ptr(), name.len(), text.as_ptr(), text.len()) })
         })
     };
     let label = "units text read, 8 texts in turn";
     compare(label, inputs.len(), || sum(raw::uppinalo_read_units), || sum(plain::units::read_units));
+}
+
+/// The dates of the units texts.
+pub fn iso_read() {
+    if !is_exported("read_iso") {
+        return print_missing("ISO text read");
+    }
+    let inputs = TEXTS.map(|(name, text)| (name, text.split_once("since ").unwrap().1)).repeat(512);
+    let sum = |call: Read<Reading>| {
+        summed(&inputs, call, |call, (name, text)| {
+            let Reading { number, instant, exact, days_back } =
+                unsafe { call(name.as_ptr(), name.len(), text.as_ptr(), text.len()) };
+            instant as u64 ^ number as u64 ^ exact as u64 ^ (days_back as u64) << 32
+        })
+    };
+    let label = "ISO text read, 8 texts in turn";
+    compare(label, inputs.len(), || sum(raw::uppinalo_read_iso), || sum(plain::units::read_iso));
 }

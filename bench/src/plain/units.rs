@@ -2,7 +2,7 @@
 
 use super::scanner::Scanner;
 use super::{clock, lent};
-use answers::{Axis, AxisAnswer, Fields};
+use answers::{Axis, AxisAnswer, Fields, Reading};
 
 struct Written {
     fields: Fields,
@@ -121,22 +121,34 @@ fn units(text: &[u8]) -> Option<(u32, u32, Written)> {
 }
 
 /// The axis of a units text, or the number of the refusal.
-pub fn read(name: &[u8], text: &[u8]) -> Result<Axis, u32> {
+/// The calendar of a name, in which a text of a length that is taken is read.
+fn text_calendar(name: &[u8], text: &[u8]) -> Result<u32, u32> {
     if text.len() > 128 {
         return Err(1);
     }
-    let calendar = calendar(name).ok_or(2u32)?;
-    let (mode, period, written) = units(text).ok_or(3u32)?;
+    calendar(name).ok_or(2)
+}
+
+/// The instant of a date as it is written.
+fn instant(calendar: u32, written: Written) -> Result<i64, u32> {
     let zone = written.zone.ok_or(4u32)?;
     let number = clock::refusal(calendar, written.fields);
     if number != 0 {
         return Err(number);
     }
-    let reference = clock::instant(calendar, written.fields) - zone;
-    if !clock::is_in_range(calendar, reference) {
-        return Err(5);
-    }
-    Ok(Axis { calendar, period, mode, reference })
+    let instant = clock::instant(calendar, written.fields) - zone;
+    if clock::is_in_range(calendar, instant) { Ok(instant) } else { Err(5) }
+}
+
+pub fn read(name: &[u8], text: &[u8]) -> Result<Axis, u32> {
+    let calendar = text_calendar(name, text)?;
+    let (mode, period, written) = units(text).ok_or(3u32)?;
+    Ok(Axis { calendar, period, mode, reference: instant(calendar, written)? })
+}
+
+fn read_date(name: &[u8], text: &[u8]) -> Result<i64, u32> {
+    let calendar = text_calendar(name, text)?;
+    instant(calendar, date(&mut Scanner { rest: text }).ok_or(3u32)?)
 }
 
 pub fn answer(read: Result<Axis, u32>) -> AxisAnswer {
@@ -151,4 +163,14 @@ pub fn answer(read: Result<Axis, u32>) -> AxisAnswer {
 #[inline(never)]
 pub unsafe extern "C" fn read_units(name: *const u8, name_len: usize, text: *const u8, text_len: usize) -> AxisAnswer {
     answer(unsafe { read(lent(name, name_len), lent(text, text_len)) })
+}
+
+/// # Safety
+/// The pointers lend so many bytes each.
+#[inline(never)]
+pub unsafe extern "C" fn read_iso(name: *const u8, name_len: usize, text: *const u8, text_len: usize) -> Reading {
+    match unsafe { read_date(lent(name, name_len), lent(text, text_len)) } {
+        Ok(instant) => Reading { instant, exact: 1, ..Default::default() },
+        Err(number) => Reading { number, ..Default::default() },
+    }
 }

@@ -21,12 +21,12 @@ pub record CutoverMonth (c : Calendar) (d : Date) : Type 0 where
   pub year : d .year ≡ pos 1582
   pub month : d .month ≡ 10
 
--- k days back from the day that is asked for, that of the date x, to the date that is given
-pub record MovedBack (c : Calendar) (x given : Date) (k : ℕ) : Type 0 where
+-- k days back to the date that is given, where `asked` has the day of the month that is asked for
+pub record MovedBack (c : Calendar) (asked given : Date) (k : ℕ) : Type 0 where
   -- the asked day less the given day
-  pub difference : k + given .day ≡ x .day
+  pub difference : k + given .day ≡ asked .day
   -- of the days that are passed none exists
-  pub passed : (d : ℕ) → given .day < d → d ≤ x .day → exists c (date (given .year) (given .month) d) ≡ false
+  pub passed : (d : ℕ) → given .day < d → d ≤ asked .day → exists c (date (given .year) (given .month) d) ≡ false
   -- never above 3, save in October 1582 of `standard`, and never above 10
   pub few : (CutoverMonth c given → ⊥) → k ≤ 3
   pub most : k ≤ 10
