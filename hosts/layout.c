@@ -5,13 +5,16 @@
 #define SIZE(type, size) _Static_assert(sizeof(type) == (size), #type)
 #define PLACE(type, field, place) _Static_assert(offsetof(type, field) == (place), #type "." #field)
 
-SIZE(uppinalo_axis, 24);
-PLACE(uppinalo_axis, period, 4);
-PLACE(uppinalo_axis, mode, 8);
-PLACE(uppinalo_axis, reference, 16);
 SIZE(uppinalo_date, 16);
 PLACE(uppinalo_date, month, 8);
 PLACE(uppinalo_date, day, 12);
+SIZE(UPPINALO_CUTOVER_1582, 16);
+SIZE(uppinalo_axis, 40);
+PLACE(uppinalo_axis, period, 4);
+PLACE(uppinalo_axis, mode, 8);
+PLACE(uppinalo_axis, reference, 16);
+PLACE(uppinalo_axis, cutover, 24);
+SIZE(UPPINALO_ZERO_AXIS, 40);
 SIZE(uppinalo_fields, 32);
 PLACE(uppinalo_fields, month, 8);
 PLACE(uppinalo_fields, day, 12);
@@ -29,7 +32,7 @@ PLACE(uppinalo_utc_fields, nanosecond, 28);
 SIZE(uppinalo_units_state, 136);
 PLACE(uppinalo_units_state, ended, 4);
 PLACE(uppinalo_units_state, bytes, 8);
-SIZE(uppinalo_axis_answer, 32);
+SIZE(uppinalo_axis_answer, 48);
 PLACE(uppinalo_axis_answer, axis, 8);
 SIZE(uppinalo_reading, 24);
 PLACE(uppinalo_reading, instant, 8);

@@ -20,7 +20,7 @@ ROOT = pathlib.Path(__file__).resolve().parent.parent
 EXAMPLES = {
     "c": ["hosts/c/example.c"],
     "rust": ["hosts/binding/examples/example.rs"],
-    "python": [f"hosts/python/{name}.py" for name in ("example", "datetime64", "fragments", "tt2000")],
+    "python": [f"hosts/python/{name}.py" for name in ("example", "cutover", "datetime64", "fragments", "tt2000")],
 }
 STUB = [
     ("target/staticlib/", "target/stub/"),
@@ -43,6 +43,7 @@ def needed(commands):
     example = (ROOT / EXAMPLES["c"][0]).read_text()
     calls = {
         "example": set(re.findall(r"uppinalo_(\w+)\(", example)),
+        "cutover.py": {"read_units", "read_whole", "write_iso", "write_fields"},
         "datetime64.py": {"read_datetime64", "write_datetime64", "write_iso"},
         "fragments.py": {"start_units", "add_units", "end_units", "fields_of", "read_whole", "write_iso"},
         "tt2000.py": {"read_tt2000", "write_tt2000"},

@@ -3,9 +3,11 @@
 use answers::*;
 use bench::plain;
 use samples::{
-    Random, borders, calendar_steps, damage, datetime64, fragments, identifiers, instants, leap_seconds, tt2000,
+    Random, borders, calendar_steps, cutovers, damage, datetime64, fragments, identifiers, instants, leap_seconds,
+    tt2000,
 };
 use second::boundary;
+use second::codes::date_numbers;
 use std::fmt::Debug;
 
 const COUNT: usize = 30_000;
@@ -27,7 +29,8 @@ fn axis(random: &mut Random) -> Axis {
         0 => instant(random, calendar),
         _ => random.between(instants::first(calendar), instants::last(calendar)),
     };
-    Axis { calendar, period: random.below(8) as u32, mode: random.below(2) as u32, reference }
+    let cutover = cutovers::of_calendar(random, calendar);
+    Axis { calendar, period: random.below(9) as u32, mode: random.below(2) as u32, reference, cutover }
 }
 
 fn double(random: &mut Random) -> f64 {
@@ -45,13 +48,44 @@ fn instants_and_days() {
     for _ in 0..COUNT {
         let calendar = random.below(7) as u32;
         let instant = instant(&mut random, calendar);
-        assert_eq!(plain::clock::fields_of(calendar, instant), boundary::fields_of(calendar, instant));
-        let day = instant.div_euclid(instants::DAY);
-        assert_eq!(plain::days::date_of_day(calendar, day), boundary::date_of_day_number(calendar, day));
-        let (mut ours, mut others) = ([7; 28], [7; 28]);
-        let answer = unsafe { plain::iso::write_iso(calendar, instant, ours.as_mut_ptr(), 28) };
-        assert_eq!(answer, boundary::write_iso(calendar, instant, &mut others));
-        assert_eq!(ours, others);
+        one_instant(calendar, cutovers::of_calendar(&mut random, calendar), instant);
+    }
+}
+
+fn one_instant(calendar: u32, cutover: Date, instant: i64) {
+    assert_eq!(plain::clock::fields_of(calendar, cutover, instant), boundary::fields_of(calendar, cutover, instant));
+    let day = instant.div_euclid(instants::DAY);
+    let date = boundary::date_of_day_number(calendar, cutover, day);
+    assert_eq!(plain::days::date_of_day(calendar, cutover, day), date, "{cutover:?}");
+    let (mut ours, mut others) = ([7; 28], [7; 28]);
+    let answer = unsafe { plain::iso::write_iso(calendar, cutover, instant, ours.as_mut_ptr(), 28) };
+    assert_eq!(answer, boundary::write_iso(calendar, cutover, instant, &mut others));
+    assert_eq!(ours, others);
+}
+
+fn one_date(calendar: u32, cutover: Date, date: Date) {
+    let ours = plain::days::day_of_date(calendar, cutover, date);
+    assert_eq!(ours, boundary::day_number_of_date(calendar, cutover, date), "{cutover:?} {date:?}");
+}
+
+/// Every cutover, allowed or not, with dates and instants about it and calendar months to what it drops.
+#[test]
+fn cutovers_of_standard() {
+    let mut random = Random::seeded(21);
+    for cutover in cutovers::triples() {
+        let Some(found) = cutovers::allowed_at(cutover) else {
+            one_date(0, cutover, cutover);
+            continue;
+        };
+        let about = cutovers::date_about(&mut random, cutover);
+        found.dropped().map(date_numbers).chain([cutover, about]).for_each(|date| one_date(0, cutover, date));
+        let day = boundary::day_number_of_date(0, cutover, cutover).day;
+        one_instant(0, cutover, day * instants::DAY + random.between(-1, 0));
+        let (axis, offset) = calendar_steps::to_dropped_dates(cutover, 1 + random.below(31) as u32);
+        read_whole(axis, offset);
+    }
+    for cutover in (0..300).map(|_| cutovers::good(&mut random)).collect::<Vec<_>>() {
+        cutovers::dates_about(cutover).for_each(|date| one_date(0, cutover, date));
     }
 }
 
@@ -63,7 +97,7 @@ fn dates() {
         let year = random.pick(&[1582, 0, -1, 10_000, any]);
         let date = Date { year, month: random.below(14) as u32, day: random.below(33) as u32 };
         let calendar = random.below(6) as u32;
-        assert_eq!(plain::days::day_of_date(calendar, date), boundary::day_number_of_date(calendar, date), "{date:?}");
+        one_date(calendar, cutovers::of_calendar(&mut random, calendar), date);
     }
 }
 
@@ -72,13 +106,14 @@ fn dates() {
 fn dates_at_borders() {
     let mut random = Random::seeded(18);
     for (calendar, date) in borders::dates(1) {
-        assert_eq!(plain::days::day_of_date(calendar, date), boundary::day_number_of_date(calendar, date), "{date:?}");
-        let axis = Axis { calendar, ..Default::default() };
+        let cutover = cutovers::of_calendar(&mut random, calendar);
+        one_date(calendar, cutover, date);
+        let axis = Axis { calendar, cutover, ..Default::default() };
         let fields = borders::fields(&mut random, date);
         assert_eq!(plain::writing::write_fields(axis, fields), boundary::write_fields(axis, fields), "{fields:?}");
         let (name, text) = borders::text(&mut random, calendar, date);
-        read_units(name, &format!("s since {text}"));
-        read_iso(name, &text);
+        read_units(name, cutover, &format!("s since {text}"));
+        read_iso(name, cutover, &text);
     }
 }
 
@@ -104,7 +139,7 @@ fn offsets() {
 #[test]
 fn steps_from_every_day() {
     for (calendar, year) in (0..6).flat_map(|calendar| calendar_steps::YEARS.map(|year| (calendar, year))) {
-        for (axis, offset) in calendar_steps::from_days_of_year(calendar, year, 0) {
+        for (axis, offset) in calendar_steps::from_days_of_year(calendar, CUTOVER_1582, year, 0) {
             read_whole(axis, offset);
             read_double(axis, offset as f64);
         }
@@ -120,19 +155,19 @@ fn writing() {
         let instant =
             if read.number == 0 { read.instant + random.one_in(3) as i64 } else { instant(&mut random, axis.calendar) };
         assert_eq!(plain::writing::write_instant(axis, instant), boundary::write_instant(axis, instant), "{axis:?}");
-        let fields = plain::clock::fields_of(axis.calendar, instant).fields;
+        let fields = plain::clock::fields_of(axis.calendar, axis.cutover, instant).fields;
         assert_eq!(plain::writing::write_fields(axis, fields), boundary::write_fields(axis, fields), "{axis:?}");
     }
 }
 
-fn read_units(name: &str, text: &str) {
-    let answer = unsafe { plain::units::read_units(name.as_ptr(), name.len(), text.as_ptr(), text.len()) };
-    assert_eq!(answer, boundary::read_units(name.as_bytes(), text.as_bytes()), "{name} {text}");
+fn read_units(name: &str, cutover: Date, text: &str) {
+    let answer = unsafe { plain::units::read_units(name.as_ptr(), name.len(), cutover, text.as_ptr(), text.len()) };
+    assert_eq!(answer, boundary::read_units(name.as_bytes(), cutover, text.as_bytes()), "{name} {cutover:?} {text}");
 }
 
-fn read_iso(name: &str, text: &str) {
-    let answer = unsafe { plain::units::read_iso(name.as_ptr(), name.len(), text.as_ptr(), text.len()) };
-    assert_eq!(answer, boundary::read_iso(name.as_bytes(), text.as_bytes()), "{name} {text}");
+fn read_iso(name: &str, cutover: Date, text: &str) {
+    let answer = unsafe { plain::units::read_iso(name.as_ptr(), name.len(), cutover, text.as_ptr(), text.len()) };
+    assert_eq!(answer, boundary::read_iso(name.as_bytes(), cutover, text.as_bytes()), "{name} {cutover:?} {text}");
 }
 
 #[test]
@@ -157,8 +192,9 @@ fn units_and_dates() {
     for _ in 0..COUNT {
         let name = random.pick(&["", "standard", "julian", "360_day", "noleap", "366_day", "ISO8601", "tai"]);
         let date = [&dates[..], &times, &zones].map(|list| random.pick(list)).concat();
-        read_iso(name, &date);
-        read_units(name, &[random.pick(&starts), &date].concat());
+        let cutover = cutovers::of_calendar(&mut random, 0);
+        read_iso(name, cutover, &date);
+        read_units(name, cutover, &[random.pick(&starts), &date].concat());
     }
 }
 
@@ -170,10 +206,10 @@ fn add(state: &mut UnitsState, fragment: &[u8]) {
     assert_eq!(*state, other);
 }
 
-fn end(state: &mut UnitsState, name: &[u8]) {
+fn end(state: &mut UnitsState, name: &[u8], cutover: Date) {
     let mut other = *state;
-    let answer = unsafe { plain::fragments::end_units(state, name.as_ptr(), name.len()) };
-    assert_eq!(answer, boundary::end_units(&mut other, name), "{other:?}");
+    let answer = unsafe { plain::fragments::end_units(state, name.as_ptr(), name.len(), cutover) };
+    assert_eq!(answer, boundary::end_units(&mut other, name, cutover), "{other:?}");
     assert_eq!(*state, other);
 }
 
@@ -185,14 +221,16 @@ fn units_in_fragments() {
             let mut state = plain::fragments::start_units();
             assert_eq!(state, boundary::start_units());
             cut.iter().for_each(|fragment| add(&mut state, fragment));
-            end(&mut state, random.pick(&["standard", "360_day", "tai"]).as_bytes());
+            let name = random.pick(&["standard", "360_day", "tai"]);
+            end(&mut state, name.as_bytes(), cutovers::of_calendar(&mut random, 0));
         }
     }
     for _ in 0..COUNT {
         let mut state = fragments::state(&mut random).1;
         add(&mut state, &fragments::fragment(&mut random));
-        end(&mut state, b"julian");
-        end(&mut state, b"julian");
+        let cutover = cutovers::any(&mut random);
+        end(&mut state, b"julian", cutover);
+        end(&mut state, b"", cutover);
     }
 }
 

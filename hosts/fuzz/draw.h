@@ -1,4 +1,4 @@
-/* Inputs drawn from a seed: codes, instants, offsets, texts, states of texts, datetime64 arrays and lists of leap seconds, good, damaged
+/* Inputs drawn from a seed: codes, cutovers, instants, offsets, texts, states of texts, datetime64 arrays and lists of leap seconds, good, damaged
  * and at random. */
 #ifndef DRAW_H
 #define DRAW_H
@@ -49,14 +49,31 @@ static int64_t instant(void) {
     }
 }
 
-/* Calendar months from a day about October 1582, or calendar years from one some years before or after. */
+/* A cutover: that of 1582, the English one, any date of the years in which one may lie, or any numbers. */
+static uppinalo_date cutover(void) {
+    switch (below(8)) {
+    case 0: return (uppinalo_date){number(), (uint32_t)bits(), (uint32_t)bits()};
+    case 1: return (uppinalo_date){1581 + (int64_t)below(345), (uint32_t)below(14), (uint32_t)below(33)};
+    case 2: return (uppinalo_date){1752, 9, 14};
+    case 3: case 4: return UPPINALO_CUTOVER_1582;
+    default: return (uppinalo_date){1583 + (int64_t)below(341), 1 + (uint32_t)below(12), below(3) ? 15 + (uint32_t)below(14) : 1};
+    }
+}
+
+/* A day about a cutover, from 1970-01-01 on; about that of 1582 where the date is none of the years after it. */
+static int64_t day_about(uppinalo_date of) {
+    if (of.year < 1582 || of.year > 1923)
+        of = UPPINALO_CUTOVER_1582;
+    return (of.year - 1970) * 36524 / 100 + (int64_t)(of.month % 16 * 30 + of.day % 32) + (int64_t)below(100) - 90;
+}
+
+/* Calendar months from a day about the axis's cutover, or calendar years from one some years before or after. */
 static void step_near_cutover(uppinalo_axis *drawn) {
-    const int64_t cutover = -141427;
     int64_t years = below(2) ? (int64_t)below(5) - 2 : 0;
     drawn->calendar = below(2) ? UPPINALO_STANDARD : drawn->calendar;
     drawn->period = years != 0 ? UPPINALO_YEAR : UPPINALO_MONTH;
     drawn->mode = UPPINALO_CALENDAR;
-    drawn->reference = (cutover + 365 * years + (int64_t)below(100) - 50) * 86400000000 + (int64_t)below(86400000000);
+    drawn->reference = (day_about(drawn->cutover) + 365 * years) * 86400000000 + (int64_t)below(86400000000);
 }
 
 /* The bytes between the fields are drawn too. */
@@ -67,6 +84,7 @@ static uppinalo_axis axis(void) {
     drawn.period = code(8);
     drawn.mode = code(2);
     drawn.reference = instant();
+    drawn.cutover = cutover();
     if (below(2))
         drawn.reference -= drawn.reference % 86400000000;
     if (below(5) == 0)
@@ -80,6 +98,12 @@ static int64_t whole_offset(void) {
     case 1: return (int64_t)below(7) - 3;
     default: return (int64_t)below(20000) - 10000;
     }
+}
+
+/* An offset on an axis: of calendar months and years most often a small one. */
+static int64_t whole_offset_on(const uppinalo_axis *on) {
+    int is_step = on->mode == UPPINALO_CALENDAR && on->period >= UPPINALO_MONTH;
+    return is_step && below(4) ? (int64_t)below(5) - 2 : whole_offset();
 }
 
 static double double_offset(void) {
@@ -99,14 +123,15 @@ static uint32_t field(uint32_t least, uint32_t most) {
     return below(30) == 0 ? (below(2) ? most + 1 : (uint32_t)bits()) : least + (uint32_t)below(most - least + 1);
 }
 
-static uppinalo_fields fields(void) {
+/* Fields of any date, now and then of one about a cutover. */
+static uppinalo_fields fields(uppinalo_date about) {
     int64_t year = below(20) == 0 ? number() : (int64_t)below(20020) - 10010;
     uppinalo_fields of = {year, field(1, 12), field(1, 31), field(0, 23), field(0, 59), field(0, 59), field(0, 999999)};
     if (below(8) == 0)
         of.year = (int64_t)below(3) - 1;
-    if (below(8) == 0) {
-        of.year = 1582;
-        of.month = 10;
+    if (below(4) == 0) {
+        of.year = about.year;
+        of.month = below(3) ? about.month : about.month - 1;
     }
     return of;
 }
@@ -117,7 +142,7 @@ static const char *const NAMES[] = {"", "standard", "gregorian", "proleptic_greg
     "no_leap", "365_day", "all_leap", "366_day", "uniform30day", "360_day", "tai", "utc", "none"};
 static const char *const UNITS[] = {"days since 1850-01-01", "hours since 1900-1-1 00:00:0.0", "s since 1970",
     "calendar months since 1582-09-10", "Calendar  years SINCE -4712-01-01 12:00 UTC",
-    "msecs since 2000-02-29T23:59:59.999999Z", "days since 1582-10-05 23:59", "hr since 2000-02-30 12:30 +01:30",
+    "msecs since 2000-02-29T23:59:59.999999Z", "days since 1582-10-05 23:59", "hr since 2000-02-30 12:30 +01:30", "days since 1752-09-02", "calendar months since 1752-08-10",
     "weeks since 0-1-1", "min since +9999-12-31 23:59 -01", "mon since 1930-01-31 00:30 +01:00", "yrs since 1-1-1 1:1:1.5 gmt"};
 static const char *const PARTS[] = {"days", "since", "calendar", " ", "  ", "-", "+", "1970", "01", "1", "T", ":",
     ".5", "Z", "UTC", "+0130", "-01:30", "s", "\xff", "0000000"};

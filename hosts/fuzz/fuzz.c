@@ -6,6 +6,8 @@
  * the input of one call, most often makes it twice, and tests that
  *   - the answers are the same, the number is one of the table, and a refusal has zeros beside its number;
  *   - 4 and 13 are the answers to the fields that have them, and to no others;
+ *   - 16 is the answer to cutovers of standard that are not allowed, and no other calendar's answer depends on the cutover; a refused axis is
+ *     the zero axis, and another has the cutover that was given;
  *   - calendar months and years step a day back by the reference's day less the given one, within the bounds, and nothing else steps one back;
  *   - what is lent to be read stays, what is lent to be written is written only where the answer says, and nothing beside it;
  *   - other calls agree: an offset, a record or a TT2000 read is written back, an element of a run reads as it does alone, a text
@@ -33,7 +35,7 @@
 #pragma weak uppinalo_read_tt2000
 #pragma weak uppinalo_write_tt2000
 
-enum { MOST_NUMBER = 15, CALLS = 19 };
+enum { MOST_NUMBER = 16, CALLS = 19 };
 
 static unsigned long long turn;
 static const char *call = "";
@@ -57,15 +59,67 @@ static void count(uint32_t given) {
 
 static lent names, texts, states, sources, rooms;
 
-static int is_in_range(uint32_t calendar, int64_t of) {
-    return !uppinalo_fields_of || uppinalo_fields_of(calendar, of).number == 0;
+static int is_in_range(uint32_t calendar, uppinalo_date with, int64_t of) {
+    return !uppinalo_fields_of || uppinalo_fields_of(calendar, with, of).number == 0;
+}
+
+/* Whether a date as it is written comes before another. */
+static int is_before(uppinalo_date a, uppinalo_date b) {
+    if (a.year != b.year)
+        return a.year < b.year;
+    return a.month != b.month ? a.month < b.month : a.day < b.day;
+}
+
+/* How many dates a cutover drops. */
+static uint32_t dropped_by(uppinalo_date with) {
+    uint32_t n = 10;
+    for (int64_t year = 1700; year <= 1900; year += 100)
+        n += !is_before(with, (uppinalo_date){year, 3, 1});
+    return n;
+}
+
+/* Whether a cutover is allowed: a Gregorian date of the years from 1582 to 1923 that drops dates of one month and leaves its first. */
+static int is_allowed(uppinalo_date with) {
+    static const uint32_t lengths[] = {31, 28, 31, 30, 31, 30, 31, 31, 30, 31, 30, 31};
+    if (with.month - 1 >= 12 || is_before(with, UPPINALO_CUTOVER_1582) || with.year > 1923)
+        return 0;
+    int is_leap = with.year % 4 == 0 && (with.year % 100 != 0 || with.year % 400 == 0);
+    uint32_t last = lengths[with.month - 1] + (with.month == 2 && is_leap);
+    return with.day == 1 || (with.day >= dropped_by(with) + 2 && with.day <= last);
+}
+
+/* The last day kept before an allowed cutover, by the calls. */
+static uppinalo_date last_kept(uppinalo_date with) {
+    int64_t day = uppinalo_day_of_date(UPPINALO_STANDARD, with, with).day;
+    return uppinalo_date_of_day(UPPINALO_STANDARD, with, day - 1).date;
+}
+
+/* Whether a name is one of standard, which looks at its cutover. */
+static int is_standard(const uint8_t *name, size_t n) {
+    return n == 0 || (n == 8 && memcmp(name, "standard", n) == 0) || (n == 9 && memcmp(name, "gregorian", n) == 0);
+}
+
+/* A cutover for a second call, whose answer must be the same: another one where the calendar does not look at it. */
+static uppinalo_date again_with(uppinalo_date with, int is_looked_at) { return is_looked_at ? with : cutover(); }
+
+/* That 16 is given for a cutover only that is looked at and not allowed, and that such a one is never taken. */
+static void require_16(uint32_t given, uppinalo_date with, int is_looked_at) {
+    int is_refused = is_looked_at && !is_allowed(with);
+    require(given != 16 || is_refused, "16 for an allowed cutover, or in another calendar");
+    require(given != 0 || !is_refused, "a cutover that is not allowed is taken");
+}
+
+/* The same of an axis, unless a code of it is unknown. */
+static void require_16_on(uint32_t given, const uppinalo_axis *on) {
+    if (on->calendar < 6 && on->period < 8 && on->mode < 2)
+        require_16(given, on->cutover, on->calendar == UPPINALO_STANDARD);
 }
 
 static int is_same_reading(const uppinalo_reading *a, const uppinalo_reading *b) {
     return a->number == b->number && a->instant == b->instant && a->exact == b->exact && a->days_back == b->days_back;
 }
 
-/* How many readings were stepped back, and of these in the month of the cutover. */
+/* How many readings were stepped back, and of these by more than 3 days, in the month of the dropped dates. */
 static unsigned long long stepped_back, stepped_back_at_cutover;
 
 /* That the days stepped back are the reference's day less the given one, where calendar months or years are read, and else 0. */
@@ -76,13 +130,17 @@ static void require_days_back(const uppinalo_reading *answer, const uppinalo_axi
     }
     if (!uppinalo_fields_of)
         return;
-    uppinalo_fields asked = uppinalo_fields_of(on->calendar, on->reference).fields;
-    uppinalo_fields given = uppinalo_fields_of(on->calendar, answer->instant).fields;
-    int is_cutover = on->calendar == UPPINALO_STANDARD && given.year == 1582 && given.month == 10;
+    uppinalo_fields asked = uppinalo_fields_of(on->calendar, on->cutover, on->reference).fields;
+    uppinalo_fields given = uppinalo_fields_of(on->calendar, on->cutover, answer->instant).fields;
     require(asked.day == given.day + answer->days_back, "days stepped back that are not the asked day less the given one");
-    require(answer->days_back <= (is_cutover ? 10u : 3u), "more days stepped back than there can be");
     stepped_back += answer->days_back > 0;
-    stepped_back_at_cutover += answer->days_back > 0 && is_cutover;
+    if (answer->days_back <= 3 || !uppinalo_day_of_date || !uppinalo_date_of_day)
+        return;
+    uppinalo_date kept = last_kept(on->cutover);
+    uint32_t most = on->cutover.day == 1 ? 31 - kept.day : dropped_by(on->cutover);
+    require(on->calendar == UPPINALO_STANDARD && given.year == kept.year && given.month == kept.month, "more than 3 days stepped back");
+    require(answer->days_back <= most, "more days stepped back than the cutover allows");
+    stepped_back_at_cutover++;
 }
 
 /* An answer's bool as the byte that it is. */
@@ -93,42 +151,55 @@ static void require_reading(const uppinalo_reading *answer, const uppinalo_axis 
     if (answer->number != 0)
         require(answer->instant == 0 && exact == 0, "a refused reading with an instant");
     else
-        require(is_in_range(on->calendar, answer->instant), "an instant past the range");
+        require(is_in_range(on->calendar, on->cutover, answer->instant), "an instant past the range");
+    require_16_on(answer->number, on);
     require_days_back(answer, on);
 }
 
-static void require_axis(const uppinalo_axis_answer *answer) {
-    uppinalo_axis of = answer->axis;
+/* Axes have bytes between their fields, so these are compared one by one; the cutover apart. */
+static int is_same_but_cutover(const uppinalo_axis *a, const uppinalo_axis *b) {
+    return a->calendar == b->calendar && a->period == b->period && a->mode == b->mode && a->reference == b->reference;
+}
+
+static void require_axis(const uppinalo_axis_answer *answer, uppinalo_date with) {
+    uppinalo_axis of = answer->axis, zero = UPPINALO_ZERO_AXIS;
     require(of.calendar < 6 && of.period < 8 && of.mode < 2, "an axis with an unknown code");
     if (answer->number != 0)
-        require(of.calendar == 0 && of.period == 0 && of.mode == 0 && of.reference == 0, "a refused text with an axis");
+        require(is_same_but_cutover(&of, &zero) && SAME(of.cutover, zero.cutover), "a refused text with another than the zero axis");
     else
-        require(is_in_range(of.calendar, of.reference), "a reference past the range");
+        require(SAME(of.cutover, with), "an axis with another cutover than the given one");
+    require(answer->number != 0 || is_in_range(of.calendar, with, of.reference), "a reference past the range");
 }
 
 static int is_same_axis(const uppinalo_axis_answer *a, const uppinalo_axis_answer *b) {
-    return a->number == b->number && a->axis.calendar == b->axis.calendar && a->axis.period == b->axis.period &&
-           a->axis.mode == b->axis.mode && a->axis.reference == b->axis.reference;
+    return a->number == b->number && is_same_but_cutover(&a->axis, &b->axis);
 }
 
 static void read_units(void) {
     uint8_t name_bytes[MOST_BYTES], text_bytes[MOST_BYTES];
     size_t n = name(name_bytes), m = text(text_bytes, 1);
+    uppinalo_date with = cutover(), other = again_with(with, is_standard(name_bytes, n));
     const uint8_t *first = lend(&names, name_bytes, n), *second = lend(&texts, text_bytes, m);
-    uppinalo_axis_answer answer = uppinalo_read_units(first, n, second, m), again = uppinalo_read_units(first, n, second, m);
+    uppinalo_axis_answer answer = uppinalo_read_units(first, n, with, second, m), again = uppinalo_read_units(first, n, other, second, m);
     count(answer.number);
     require(is_same_axis(&answer, &again), "two answers");
+    require_16(answer.number, with, is_standard(name_bytes, n));
+    require_axis(&again, other);
     require(is_kept_after(&names, 0) && is_kept_after(&texts, 0), "a text is changed");
     require(m <= 128 || answer.number == 1, "a text over 128 bytes is not refused with 1");
-    require_axis(&answer);
+    require_axis(&answer, with);
 }
 
+/* What a text is read as at once, with a cutover. */
+typedef struct { const uint8_t *name; size_t n; uppinalo_date with; const uint8_t *text; size_t m; } whole_text;
+
 /* That an axis is the one of the text when it is read at once. */
-static void require_at_once(const uppinalo_axis_answer *answer, const uint8_t *name, size_t n, const uint8_t *of, size_t m) {
+static void require_at_once(const uppinalo_axis_answer *answer, whole_text of) {
     if (!uppinalo_read_units)
         return;
-    uppinalo_axis_answer at_once = uppinalo_read_units(name, n, of, m);
+    uppinalo_axis_answer at_once = uppinalo_read_units(of.name, of.n, of.with, of.text, of.m);
     require(is_same_axis(answer, &at_once), "the text reads otherwise at once");
+    require(SAME(answer->axis.cutover, at_once.axis.cutover), "an axis with another cutover at once");
 }
 
 /* A text from a fresh state on, in fragments of any lengths. */
@@ -147,9 +218,10 @@ static void start_units(void) {
         require(uppinalo_add_units(given, part, length) == 0, "a fragment is refused");
         at += length;
     }
-    uppinalo_axis_answer answer = uppinalo_end_units(given, name_bytes, n);
+    uppinalo_date with = cutover();
+    uppinalo_axis_answer answer = uppinalo_end_units(given, name_bytes, n, with);
     require(is_kept_after(&states, sizeof fresh), "what lies beside the state is changed");
-    require_at_once(&answer, name_bytes, n, bytes, m);
+    require_at_once(&answer, (whole_text){name_bytes, n, with, bytes, m});
 }
 
 static int is_open(const uppinalo_units_state *of) { return of->ended == 0 && of->count <= 129; }
@@ -185,30 +257,35 @@ static void end_units(void) {
     size_t n = name(name_bytes);
     uppinalo_units_state before = units_state(), again = before, *given = lend(&states, &before, sizeof before);
     const uint8_t *first = lend(&names, name_bytes, n);
-    uppinalo_axis_answer answer = uppinalo_end_units(given, first, n), other = uppinalo_end_units(&again, first, n);
-    count(answer.number);
+    uppinalo_date with = cutover(), second = again_with(with, is_standard(name_bytes, n));
+    uppinalo_axis_answer answer = uppinalo_end_units(given, first, n, with), other = uppinalo_end_units(&again, first, n, second);
+    uint32_t of = answer.number;
+    count(of);
     require(is_same_axis(&answer, &other) && SAME(again, *given), "two answers");
-    require(answer.number <= 5 || (answer.number >= 11 && answer.number <= 13), "an end is refused with another number");
+    require(of <= 5 || (of >= 11 && of <= 13) || of == 16, "an end is refused with another number");
+    require_16(of, with, is_standard(name_bytes, n));
     require(is_kept_after(&names, 0), "the name is changed");
-    require_open(&before, answer.number);
-    require_axis(&answer);
-    if (answer.number == 11)
+    require_open(&before, of);
+    require_axis(&answer, with);
+    if (of == 11)
         return;
     uppinalo_units_state expected = before;
     expected.ended = 1;
     require(SAME(*given, expected), "an end that does not end, or changes more");
-    require(before.count <= 128 || answer.number == 1, "a text over 128 bytes is not refused with 1");
+    require(before.count <= 128 || of == 1, "a text over 128 bytes is not refused with 1");
     if (before.count <= 128)
-        require_at_once(&answer, first, n, before.bytes, before.count);
+        require_at_once(&answer, (whole_text){first, n, with, before.bytes, before.count});
 }
 
 static void read_iso(void) {
     uint8_t name_bytes[MOST_BYTES], text_bytes[MOST_BYTES];
     size_t n = name(name_bytes), m = text(text_bytes, 0);
     const uint8_t *first = lend(&names, name_bytes, n), *second = lend(&texts, text_bytes, m);
-    uppinalo_reading answer = uppinalo_read_iso(first, n, second, m), again = uppinalo_read_iso(first, n, second, m);
+    uppinalo_date with = cutover(), other = again_with(with, is_standard(name_bytes, n));
+    uppinalo_reading answer = uppinalo_read_iso(first, n, with, second, m), again = uppinalo_read_iso(first, n, other, second, m);
     count(answer.number);
     require(is_same_reading(&answer, &again), "two answers");
+    require_16(answer.number, with, is_standard(name_bytes, n));
     require(is_kept_after(&names, 0) && is_kept_after(&texts, 0), "a text is changed");
     require(m <= 128 || answer.number == 1, "a text over 128 bytes is not refused with 1");
     require(answer.number == 0 ? answer.exact : !answer.exact && answer.instant == 0, "exact, and only on success");
@@ -223,13 +300,16 @@ static void write_iso(void) {
     size_t n = below(2) ? 26 + (size_t)below(4) : (size_t)below(60);
     memset(filled, (int)below(256), n);
     uint8_t *room = lend(&rooms, filled, n);
-    uppinalo_length_answer answer = uppinalo_write_iso(calendar, of, room, n);
+    uppinalo_date with = cutover();
+    uppinalo_length_answer answer = uppinalo_write_iso(calendar, with, of, room, n);
     count(answer.number);
+    require_16(answer.number, with, calendar == UPPINALO_STANDARD);
     require(answer.number == 0 ? answer.length == 27 || answer.length == 28 : answer.length == 0, "another length");
     require(answer.length <= n && is_kept_after(&rooms, answer.length), "more than the text is written");
     if (uppinalo_read_iso && answer.number == 0) {
         const char *known = CODED[calendar];
-        uppinalo_reading back = uppinalo_read_iso((const uint8_t *)known, strlen(known), room, answer.length);
+        with = again_with(with, calendar == UPPINALO_STANDARD);
+        uppinalo_reading back = uppinalo_read_iso((const uint8_t *)known, strlen(known), with, room, answer.length);
         require(back.number == 0 && back.instant == of && back.exact, "the text does not read as the instant");
     }
 }
@@ -241,10 +321,12 @@ static int is_possible(uppinalo_fields of) {
 
 static void fields_of(void) {
     uint32_t calendar = code(6);
-    int64_t of = instant();
-    uppinalo_fields_answer answer = uppinalo_fields_of(calendar, of), again = uppinalo_fields_of(calendar, of);
+    uppinalo_date with = cutover(), other = again_with(with, calendar == UPPINALO_STANDARD);
+    int64_t of = below(4) ? instant() : day_about(with) * 86400000000 + (int64_t)below(86400000000);
+    uppinalo_fields_answer answer = uppinalo_fields_of(calendar, with, of), again = uppinalo_fields_of(calendar, other, of);
     uppinalo_fields f = answer.fields;
     count(answer.number);
+    require_16(answer.number, with, calendar == UPPINALO_STANDARD);
     require(answer.number == again.number && SAME(answer.fields, again.fields), "two answers");
     require(calendar < 6 || answer.number == 2, "an unknown calendar is not refused with 2");
     if (answer.number == 0)
@@ -255,57 +337,79 @@ static void fields_of(void) {
 
 static void date_of_day(void) {
     uint32_t calendar = code(6);
-    int64_t day = below(3) ? (int64_t)below(7400000) - 4400000 : number();
-    uppinalo_date_answer answer = uppinalo_date_of_day(calendar, day);
+    uppinalo_date with = cutover(), other = again_with(with, calendar == UPPINALO_STANDARD);
+    int64_t day = below(3) ? (int64_t)below(7400000) - 4400000 : below(2) ? day_about(with) : number();
+    uppinalo_date_answer answer = uppinalo_date_of_day(calendar, with, day), again = uppinalo_date_of_day(calendar, other, day);
     count(answer.number);
+    require(answer.number == again.number && SAME(answer.date, again.date), "two answers");
+    require_16(answer.number, with, calendar == UPPINALO_STANDARD);
     require(answer.number == 0 || SAME(answer.date, ((uppinalo_date){0})), "a refusal with a date");
     if (uppinalo_day_of_date && answer.number == 0) {
-        uppinalo_day_answer back = uppinalo_day_of_date(calendar, answer.date);
+        uppinalo_day_answer back = uppinalo_day_of_date(calendar, other, answer.date);
         require(back.number == 0 && back.day == day, "the date has another day number");
     }
 }
 
-/* That 4 and 13 are the answers to the fields that have them, and to no others, unless a code, the reference or the year is refused. */
-static void require_kind(uint32_t given, uint32_t calendar, uppinalo_fields of) {
-    int is_dropped = calendar == UPPINALO_STANDARD && of.year == 1582 && of.month == 10 && of.day - 5 < 10;
-    if (given == 2 || given == 3 || given == 5)
+/* Whether an allowed cutover drops a date: one that julian has, after the last day kept and before the cutover. */
+static int is_dropped(uppinalo_date with, uppinalo_date of) {
+    int is_julian = uppinalo_day_of_date(UPPINALO_JULIAN, with, of).number == 0;
+    return is_julian && is_before(of, with) && is_before(last_kept(with), of);
+}
+
+/* That 4 and 13 are the answers to the fields that have them, and to no others, unless a code, the cutover, the reference or the year is
+ * refused. */
+static void require_kind(uint32_t given, uint32_t calendar, uppinalo_date with, uppinalo_fields of) {
+    uppinalo_date date = {of.year, of.month, of.day};
+    if (given == 2 || given == 3 || given == 5 || given == 16)
         return;
     require((given == 4) == !is_possible(of), "4 where every field is possible, or not where one is not");
-    require((given == 13) == (is_possible(of) && is_dropped), "13 for a day that is not dropped, or not for one that is");
+    if (!uppinalo_day_of_date || !uppinalo_date_of_day)
+        return;
+    int is_13 = is_possible(of) && calendar == UPPINALO_STANDARD && is_dropped(with, date);
+    require((given == 13) == is_13, "13 for a day that is not dropped, or not for one that is");
 }
 
 static void day_of_date(void) {
     uint32_t calendar = code(6);
-    uppinalo_fields drawn = fields();
+    uppinalo_date with = cutover(), other = again_with(with, calendar == UPPINALO_STANDARD);
+    uppinalo_fields drawn = fields(with);
     uppinalo_date date = {drawn.year, drawn.month, drawn.day};
-    uppinalo_day_answer answer = uppinalo_day_of_date(calendar, date);
+    uppinalo_day_answer answer = uppinalo_day_of_date(calendar, with, date), again = uppinalo_day_of_date(calendar, other, date);
     count(answer.number);
+    require(answer.number == again.number && answer.day == again.day, "two answers");
     require(answer.number == 0 || answer.day == 0, "a refusal with a day");
-    require_kind(answer.number, calendar, (uppinalo_fields){date.year, date.month, date.day, 0, 0, 0, 0});
+    require_16(answer.number, with, calendar == UPPINALO_STANDARD);
+    require_kind(answer.number, calendar, with, (uppinalo_fields){date.year, date.month, date.day, 0, 0, 0, 0});
     if (uppinalo_date_of_day && answer.number == 0) {
-        uppinalo_date_answer back = uppinalo_date_of_day(calendar, answer.day);
+        uppinalo_date_answer back = uppinalo_date_of_day(calendar, other, answer.day);
         require(back.number == 0 && SAME(back.date, date), "the day number has another date");
     }
 }
 
+/* The axis for a second call, with another cutover where its calendar does not look at it. */
+static uppinalo_axis again_on(uppinalo_axis on) {
+    on.cutover = again_with(on.cutover, on.calendar == UPPINALO_STANDARD);
+    return on;
+}
+
 static void read_whole(void) {
     uppinalo_axis on = axis();
-    int64_t offset = whole_offset();
-    uppinalo_reading answer = uppinalo_read_whole(on, offset), again = uppinalo_read_whole(on, offset);
+    int64_t offset = whole_offset_on(&on);
+    uppinalo_reading answer = uppinalo_read_whole(on, offset), again = uppinalo_read_whole(again_on(on), offset);
     count(answer.number);
     require(is_same_reading(&answer, &again), "two answers");
     require_reading(&answer, &on);
     require(answer.number != 0 || answer.exact, "a whole offset that is not exact");
     if (uppinalo_write_instant && answer.number == 0) {
-        uppinalo_offset_answer back = uppinalo_write_instant(on, answer.instant);
+        uppinalo_offset_answer back = uppinalo_write_instant(again_on(on), answer.instant);
         require(back.number == 0 && back.offset == offset, "the instant is written as another offset");
     }
 }
 
 static void read_double(void) {
     uppinalo_axis on = axis();
-    double offset = double_offset();
-    uppinalo_reading answer = uppinalo_read_double(on, offset), again = uppinalo_read_double(on, offset);
+    double offset = below(4) ? double_offset() : (double)whole_offset_on(&on);
+    uppinalo_reading answer = uppinalo_read_double(on, offset), again = uppinalo_read_double(again_on(on), offset);
     count(answer.number);
     require(is_same_reading(&answer, &again), "two answers");
     require_reading(&answer, &on);
@@ -318,10 +422,11 @@ static void read_double(void) {
 static void write_instant(void) {
     uppinalo_axis on = axis();
     int64_t days = (int64_t)below(2000) - 1000, of = instant();
-    if (below(2) && is_in_range(on.calendar, on.reference))
+    if (below(2) && is_in_range(on.calendar, on.cutover, on.reference))
         of = on.reference + days * 86400000000 + (int64_t)below(3) - 1;
     uppinalo_offset_answer answer = uppinalo_write_instant(on, of);
     count(answer.number);
+    require_16_on(answer.number, &on);
     require(answer.number == 0 || answer.offset == 0, "a refusal with an offset");
     if (uppinalo_read_whole && answer.number == 0) {
         uppinalo_reading back = uppinalo_read_whole(on, answer.offset);
@@ -331,18 +436,19 @@ static void write_instant(void) {
 
 static void write_fields(void) {
     uppinalo_axis on = axis();
-    uppinalo_fields of = fields();
+    uppinalo_fields of = fields(on.cutover);
     if (below(2))
         of.microsecond = 0;
     if (below(2))
         of.hour = of.minute = of.second = of.microsecond = 0;
     uppinalo_offset_answer answer = uppinalo_write_fields(on, of);
     count(answer.number);
+    require_16_on(answer.number, &on);
     require(answer.number == 0 || answer.offset == 0, "a refusal with an offset");
-    require_kind(answer.number, on.calendar, of);
+    require_kind(answer.number, on.calendar, on.cutover, of);
     if (uppinalo_read_whole && uppinalo_fields_of && answer.number == 0) {
         uppinalo_reading back = uppinalo_read_whole(on, answer.offset);
-        uppinalo_fields_answer shown = uppinalo_fields_of(on.calendar, back.instant);
+        uppinalo_fields_answer shown = uppinalo_fields_of(on.calendar, on.cutover, back.instant);
         require(back.number == 0 && SAME(shown.fields, of), "the offset reads as other fields");
     }
 }
@@ -395,6 +501,7 @@ static void read_wholes(void) {
     uppinalo_run_answer answer = uppinalo_read_wholes(on, source, n, (int64_t *)(void *)rooms.start, m);
     count(answer.number);
     require_run(answer, n, m);
+    require_16_on(answer.number, &on);
     require(answer.rounded == 0, "a whole offset is rounded");
     REQUIRE_ALONE(answer, uppinalo_read_whole, on, drawn, (const int64_t *)(const void *)rooms.start, n);
 }
@@ -411,6 +518,7 @@ static void read_doubles(void) {
     uppinalo_run_answer answer = uppinalo_read_doubles(on, source, n, (int64_t *)(void *)rooms.start, m);
     count(answer.number);
     require_run(answer, n, m);
+    require_16_on(answer.number, &on);
     REQUIRE_ALONE(answer, uppinalo_read_double, on, drawn, (const int64_t *)(const void *)rooms.start, n);
 }
 
@@ -435,7 +543,7 @@ static void read_datetime64(void) {
     require_array(answer, n, m);
     require(of.length % RECORD == 0 || answer.number == 9 || answer.number == 3, "a part of a record is not refused");
     for (size_t i = 0; i < answer.length; i++)
-        require(is_in_range(UPPINALO_PROLEPTIC_GREGORIAN, written[i]), "an instant past the range");
+        require(is_in_range(UPPINALO_PROLEPTIC_GREGORIAN, UPPINALO_CUTOVER_1582, written[i]), "an instant past the range");
     if (answer.number == 5 || answer.number == 6 || answer.number == 10) {
         size_t at = RECORD * answer.place;
         uppinalo_run_answer before = uppinalo_read_datetime64(name, of.identifier_len, source, at, first, MOST_OFFSETS);
@@ -614,7 +722,7 @@ int main(int argc, char **argv) {
         turn++;
     }
     print_counts();
-    printf("fuzz: %llu readings were stepped back, %llu of them in October 1582\n", stepped_back, stepped_back_at_cutover);
+    printf("fuzz: %llu readings were stepped back, %llu of them over dropped dates\n", stepped_back, stepped_back_at_cutover);
     printf("fuzz: %llu rounds from seed %s: ok\n", rounds, argv[2]);
     return 0;
 }

@@ -2,14 +2,13 @@
 
 use super::ELEMENTS;
 use crate::plain;
+use crate::plain::cutover::PROLEPTIC_GREGORIAN;
 use crate::timing::{compare, print_missing};
 use answers::{Date, RunAnswer};
 use samples::{Random, instants};
 use std::fmt::Debug;
 use std::hint::black_box;
 use uppinalo::{is_exported, raw};
-
-const PROLEPTIC_GREGORIAN: u32 = 1;
 
 type Call<A, B> = unsafe extern "C" fn(*const u8, usize, *const A, usize, *mut B, usize) -> RunAnswer;
 
@@ -39,7 +38,7 @@ fn measure<A, B: Copy + Default + Into<i64> + PartialEq + Debug>(
 
 /// Instants of the years 1850 to 2100 that are a whole number of an identifier's unit.
 fn whole_instants(identifier: &str) -> Vec<i64> {
-    let any = instants::from_1850_to_2100(&mut Random::seeded(16), PROLEPTIC_GREGORIAN, ELEMENTS);
+    let any = instants::from_1850_to_2100(&mut Random::seeded(16), PROLEPTIC_GREGORIAN.code, ELEMENTS);
     let whole = |instant: i64| match identifier {
         "<M8[M]" => {
             let date = plain::clock::date_of(plain::clock::fields(PROLEPTIC_GREGORIAN, instant));

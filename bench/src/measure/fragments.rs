@@ -4,14 +4,14 @@ use super::texts::{TEXTS, axis_sum};
 use super::{ELEMENTS, summed};
 use crate::plain;
 use crate::timing::{compare, print_missing};
-use answers::{AxisAnswer, UnitsState};
+use answers::{AxisAnswer, CUTOVER_1582, Date, UnitsState};
 use uppinalo::{is_exported, raw};
 
 #[derive(Clone, Copy)]
 struct Calls {
     start: unsafe extern "C" fn() -> UnitsState,
     add: unsafe extern "C" fn(*mut UnitsState, *const u8, usize) -> u32,
-    end: unsafe extern "C" fn(*mut UnitsState, *const u8, usize) -> AxisAnswer,
+    end: unsafe extern "C" fn(*mut UnitsState, *const u8, usize, Date) -> AxisAnswer,
 }
 
 const OURS: Calls =
@@ -27,7 +27,7 @@ fn texts(label: &str, length: usize) {
             let mut state = (calls.start)();
             let mut add = |fragment: &[u8]| (calls.add)(&mut state, fragment.as_ptr(), fragment.len());
             let added = text.as_bytes().chunks(length).fold(0, |sum, fragment| sum | add(fragment));
-            axis_sum((calls.end)(&mut state, name.as_ptr(), name.len())) ^ added as u64
+            axis_sum((calls.end)(&mut state, name.as_ptr(), name.len(), CUTOVER_1582)) ^ added as u64
         })
     };
     compare(label, inputs.len(), || sum(OURS), || sum(PLAIN));

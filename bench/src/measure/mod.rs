@@ -9,7 +9,8 @@ pub mod runs;
 pub mod texts;
 pub mod tt2000;
 
-use answers::Axis;
+use answers::{Axis, CUTOVER_1582, Date};
+use samples::cutovers::ENGLISH;
 use samples::{Random, instants};
 use std::hint::black_box;
 
@@ -25,19 +26,25 @@ fn summed<T: Copy, F>(inputs: &[T], call: F, one: impl Fn(&F, T) -> u64) -> u64 
     inputs.iter().fold(0, |sum, &input| sum.wrapping_add(one(&call, input)))
 }
 
-/// For each calendar, a label and instants over all years, and the same near today.
-fn each_span(what: &str, seed: u64, measure: impl Fn(&str, u32, Vec<i64>)) {
+/// For each calendar, a label and instants over all years, and the same near today; then of `standard` in the years of the cutovers, and with
+/// the English one.
+fn each_span(what: &str, seed: u64, measure: impl Fn(&str, u32, Date, Vec<i64>)) {
     let mut random = Random::seeded(seed);
     for (calendar, name) in (0..).zip(NAMES) {
         let all = instants::over_all_years(&mut random, calendar, ELEMENTS);
         let near = instants::from_1850_to_2100(&mut random, calendar, ELEMENTS);
-        measure(&format!("{what}, {name}, all years"), calendar, all);
-        measure(&format!("{what}, {name}, 1850-2100"), calendar, near);
+        measure(&format!("{what}, {name}, all years"), calendar, CUTOVER_1582, all);
+        measure(&format!("{what}, {name}, 1850-2100"), calendar, CUTOVER_1582, near);
     }
+    let all = instants::over_all_years(&mut random, 0, ELEMENTS);
+    let between = instants::from_1582_to_1923(&mut random, 0, ELEMENTS);
+    measure(&format!("{what}, standard, 1582-1923"), 0, CUTOVER_1582, between.clone());
+    measure(&format!("{what}, English cutover, all years"), 0, ENGLISH, all);
+    measure(&format!("{what}, English cutover, 1582-1923"), 0, ENGLISH, between);
 }
 
 fn axis(calendar: u32, period: u32, mode: u32) -> Axis {
-    Axis { calendar, period, mode, reference: FROM_1900 }
+    Axis { calendar, period, mode, reference: FROM_1900, cutover: CUTOVER_1582 }
 }
 
 /// Whole offsets of both signs, within about 100 years of the reference.

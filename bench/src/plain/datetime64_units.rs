@@ -1,11 +1,11 @@
 //! The units of datetime64 arrays: how a number is read as an instant, and an instant written as a number.
 
 use super::clock::DAY;
+use super::cutover::PROLEPTIC_GREGORIAN;
 use super::days;
 use answers::Date;
 
 const NOT_A_TIME: i64 = i64::MIN;
-const PROLEPTIC_GREGORIAN: u32 = 1;
 const FIRST: i64 = -4_371_587 * DAY;
 const LAST: i64 = 2_932_897 * DAY - 1;
 

@@ -1,9 +1,10 @@
-//! Day numbers and dates of the six calendars, by their codes.
+//! Day numbers and dates of the six calendars.
 
 use super::civil::*;
+use super::cutover::{Calendar, calendar};
 use answers::{Date, DateAnswer, DayAnswer};
 
-/// The first and the last day of the years -9999 to 9999.
+/// The first and the last day of the years -9999 to 9999, by the calendar's code.
 const RANGES: [(i64, i64); 6] = [
     (-4_371_299, 2_932_896),
     (-4_371_587, 2_932_896),
@@ -13,24 +14,26 @@ const RANGES: [(i64, i64); 6] = [
     (-4_308_840, 2_890_799),
 ];
 
-/// 1582-10-15 of `standard`.
-const CUTOVER: i64 = -141_427;
-
-pub fn is_in_range(calendar: u32, day: i64) -> bool {
-    let (first, last) = RANGES[calendar as usize];
+pub fn is_in_range(code: u32, day: i64) -> bool {
+    let (first, last) = RANGES[code as usize];
     first <= day && day <= last
 }
 
-pub fn range(calendar: u32) -> (i64, i64) {
-    RANGES[calendar as usize]
+pub fn range(code: u32) -> (i64, i64) {
+    RANGES[code as usize]
 }
 
-pub fn lacks_year_0(calendar: u32) -> bool {
-    calendar == 0 || calendar == 2
+pub fn lacks_year_0(code: u32) -> bool {
+    code == 0 || code == 2
 }
 
-fn standard_date(day: i64) -> Date {
-    if day >= CUTOVER { gregorian_date(day + 719_468) } else { julian_date(day + 719_470) }
+/// The days of the first and of the last cutover that `standard` may have.
+const FIRST_CUTOVER: i64 = -141_427;
+const LAST_CUTOVER: i64 = -16_803;
+
+fn standard_date(cutover: Date, day: i64) -> Date {
+    let is_late = day >= LAST_CUTOVER || day >= FIRST_CUTOVER && day >= gregorian_day(cutover) - 719_468;
+    if is_late { gregorian_date(day + 719_468) } else { julian_date(day + 719_470) }
 }
 
 fn date_of_360_days(day: i64) -> Date {
@@ -39,9 +42,9 @@ fn date_of_360_days(day: i64) -> Date {
 }
 
 /// The date of a day number of a known calendar, in its range.
-pub fn date(calendar: u32, day: i64) -> Date {
-    match calendar {
-        0 => standard_date(day),
+pub fn date(calendar: Calendar, day: i64) -> Date {
+    match calendar.code {
+        0 => standard_date(calendar.cutover, day),
         1 => gregorian_date(day + 719_468),
         2 => julian_date(day + 719_483),
         3 => even_date(day + 718_991, 365),
@@ -50,15 +53,15 @@ pub fn date(calendar: u32, day: i64) -> Date {
     }
 }
 
-fn standard_day(date: Date) -> i64 {
-    let is_late = (date.year, date.month, date.day) >= (1582, 10, 15);
+fn standard_day(cutover: Date, date: Date) -> i64 {
+    let is_late = (date.year, date.month, date.day) >= (cutover.year, cutover.month, cutover.day);
     if is_late { gregorian_day(date) - 719_468 } else { julian_day(date) - 719_470 }
 }
 
 /// The day number of a date that a known calendar has.
-pub fn day(calendar: u32, date: Date) -> i64 {
-    match calendar {
-        0 => standard_day(date),
+pub fn day(calendar: Calendar, date: Date) -> i64 {
+    match calendar.code {
+        0 => standard_day(calendar.cutover, date),
         1 => gregorian_day(date) - 719_468,
         2 => julian_day(date) - 719_483,
         3 => even_day(date, 365) - 718_991,
@@ -67,60 +70,74 @@ pub fn day(calendar: u32, date: Date) -> i64 {
     }
 }
 
-fn is_leap(calendar: u32, year: i64) -> bool {
-    let gregorian = year % 4 == 0 && (year % 100 != 0 || year % 400 == 0);
-    match calendar {
-        0 if year > 1582 => gregorian,
+fn is_gregorian_leap(year: i64) -> bool {
+    year % 4 == 0 && (year % 100 != 0 || year % 400 == 0)
+}
+
+/// Whether a month lies in a leap year.
+fn is_leap(calendar: Calendar, year: i64, month: u32) -> bool {
+    match calendar.code {
+        0 if calendar.is_gregorian_month(year, month) => is_gregorian_leap(year),
         0 | 2 => counted(year) % 4 == 0,
-        1 => gregorian,
+        1 => is_gregorian_leap(year),
         3 => false,
         _ => true,
     }
 }
 
-pub fn month_length(calendar: u32, year: i64, month: u32) -> u32 {
+fn length(month: u32, is_leap: impl Fn() -> bool) -> u32 {
     match month {
-        _ if calendar == 5 => 30,
-        2 if is_leap(calendar, year) => 29,
+        2 if is_leap() => 29,
         2 => 28,
         4 | 6 | 9 | 11 => 30,
         _ => 31,
     }
 }
 
-/// Whether a calendar dropped a date in 1582.
-pub fn is_dropped(calendar: u32, date: Date) -> bool {
-    calendar == 0 && date.year == 1582 && date.month == 10 && (5..15).contains(&date.day)
+pub fn gregorian_month_length(year: i64, month: u32) -> u32 {
+    length(month, || is_gregorian_leap(year))
+}
+
+/// The length of a month, with the dates of it that `standard` dropped.
+fn month_length(calendar: Calendar, year: i64, month: u32) -> u32 {
+    if calendar.code == 5 { 30 } else { length(month, || is_leap(calendar, year, month)) }
+}
+
+/// The last day of a month that is not after a day.
+pub fn day_at_most(calendar: Calendar, year: i64, month: u32, day: u32) -> u32 {
+    let length = month_length(calendar, year, month);
+    let day = day.min(length);
+    calendar.kept_before(Date { year, month, day }, length).unwrap_or(day)
 }
 
 /// The number of the refusal of a date whose year is in range, or 0.
-pub fn refusal(calendar: u32, date: Date) -> u32 {
+pub fn refusal(calendar: Calendar, date: Date) -> u32 {
     let Date { year, month, day } = date;
     if !(1..=12).contains(&month) || !(1..=31).contains(&day) {
         return 4;
     }
-    if year == 0 && lacks_year_0(calendar) || day > month_length(calendar, year, month) {
+    let length = month_length(calendar, year, month);
+    if year == 0 && lacks_year_0(calendar.code) || day > length {
         return 12;
     }
-    if is_dropped(calendar, date) { 13 } else { 0 }
+    if calendar.kept_before(date, length).is_some() { 13 } else { 0 }
 }
 
 #[inline(never)]
-pub extern "C" fn date_of_day(calendar: u32, day: i64) -> DateAnswer {
-    if calendar > 5 {
-        return DateAnswer { number: 2, ..Default::default() };
+pub extern "C" fn date_of_day(code: u32, cutover: Date, day: i64) -> DateAnswer {
+    match calendar(code, cutover) {
+        Ok(calendar) if is_in_range(code, day) => DateAnswer { number: 0, date: date(calendar, day) },
+        Ok(_) => DateAnswer { number: 5, ..Default::default() },
+        Err(number) => DateAnswer { number, ..Default::default() },
     }
-    if !is_in_range(calendar, day) {
-        return DateAnswer { number: 5, ..Default::default() };
-    }
-    DateAnswer { number: 0, date: date(calendar, day) }
 }
 
 #[inline(never)]
-pub extern "C" fn day_of_date(calendar: u32, date: Date) -> DayAnswer {
-    if calendar > 5 {
-        return DayAnswer { number: 2, day: 0 };
-    }
+pub extern "C" fn day_of_date(code: u32, cutover: Date, date: Date) -> DayAnswer {
+    let calendar = match calendar(code, cutover) {
+        Ok(calendar) => calendar,
+        Err(number) => return DayAnswer { number, day: 0 },
+    };
     if !(-9999..=9999).contains(&date.year) {
         return DayAnswer { number: 5, day: 0 };
     }

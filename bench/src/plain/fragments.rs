@@ -1,7 +1,7 @@
 //! Units text in fragments: a buffer that is filled by copying, and read at the end.
 
 use super::{lent, units};
-use answers::{AxisAnswer, UnitsState};
+use answers::{AxisAnswer, Date, UnitsState};
 
 const ROOM: usize = 128;
 
@@ -34,11 +34,16 @@ pub unsafe extern "C" fn add_units(state: *mut UnitsState, fragment: *const u8, 
 /// # Safety
 /// As of `add_units`.
 #[inline(never)]
-pub unsafe extern "C" fn end_units(state: *mut UnitsState, name: *const u8, name_len: usize) -> AxisAnswer {
+pub unsafe extern "C" fn end_units(
+    state: *mut UnitsState,
+    name: *const u8,
+    name_len: usize,
+    cutover: Date,
+) -> AxisAnswer {
     let (state, name) = unsafe { (&mut *state, lent(name, name_len)) };
     units::answer(tested(state).and_then(|()| {
         state.ended = 1;
         let text = state.bytes.get(..state.count as usize).ok_or(1u32)?;
-        units::read(name, text)
+        units::read(name, cutover, text)
     }))
 }

@@ -1,7 +1,8 @@
 //! ISO text written.
 
+use super::cutover::calendar;
 use super::{clock, lent_mut};
-use answers::{Fields, LengthAnswer};
+use answers::{Date, Fields, LengthAnswer};
 
 /// The last so many decimal digits of a number.
 fn put(text: &mut [u8], mut number: u32) {
@@ -38,12 +39,18 @@ fn write(fields: Fields, room: &mut [u8]) -> LengthAnswer {
 /// # Safety
 /// The pointer lends so many bytes.
 #[inline(never)]
-pub unsafe extern "C" fn write_iso(calendar: u32, instant: i64, room: *mut u8, room_len: usize) -> LengthAnswer {
-    if calendar > 5 {
-        return LengthAnswer { number: 2, length: 0 };
+pub unsafe extern "C" fn write_iso(
+    code: u32,
+    cutover: Date,
+    instant: i64,
+    room: *mut u8,
+    room_len: usize,
+) -> LengthAnswer {
+    match calendar(code, cutover) {
+        Ok(calendar) if clock::is_in_range(code, instant) => {
+            write(clock::fields(calendar, instant), unsafe { lent_mut(room, room_len) })
+        }
+        Ok(_) => LengthAnswer { number: 5, length: 0 },
+        Err(number) => LengthAnswer { number, length: 0 },
     }
-    if !clock::is_in_range(calendar, instant) {
-        return LengthAnswer { number: 5, length: 0 };
-    }
-    write(clock::fields(calendar, instant), unsafe { lent_mut(room, room_len) })
 }

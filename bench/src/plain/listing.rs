@@ -1,8 +1,8 @@
 //! The listing program: lines in, a line out for each, through a buffer on either side.
 
 use super::wholes::Start;
-use super::{clock, doubles, iso, units};
-use answers::Reading;
+use super::{clock, doubles, iso, period, units};
+use answers::{Axis, CUTOVER_1582, Reading};
 use std::io::{BufRead, Result, Write};
 
 enum Offset {
@@ -39,7 +39,7 @@ fn offset(text: &[u8]) -> Option<Offset> {
     }
 }
 
-fn read(line: &[u8]) -> std::result::Result<(u32, Reading), u32> {
+fn read(line: &[u8]) -> std::result::Result<(Axis, Reading), u32> {
     if line.len() > 255 {
         return Err(1);
     }
@@ -48,21 +48,21 @@ fn read(line: &[u8]) -> std::result::Result<(u32, Reading), u32> {
         return Err(3);
     };
     let offset = offset(last).ok_or(3u32)?;
-    let axis = units::read(name, text)?;
+    let axis = units::read(name, CUTOVER_1582, text)?;
     let start = Start::of(axis);
     let reading = match offset {
         Offset::Whole(n) => start.read(n),
         Offset::Double(x) => doubles::read(&start, x),
     };
-    if reading.number == 0 { Ok((axis.calendar, reading)) } else { Err(reading.number) }
+    if reading.number == 0 { Ok((axis, reading)) } else { Err(reading.number) }
 }
 
 fn answer(line: &[u8], output: &mut impl Write) -> Result<()> {
-    let (calendar, reading) = match read(line) {
+    let (axis, reading) = match read(line) {
         Ok(read) => read,
         Err(number) => return writeln!(output, "refused {number}"),
     };
-    let fields = clock::fields(calendar, reading.instant);
+    let fields = clock::fields(period::calendar(axis), reading.instant);
     if fields.year < 0 {
         output.write_all(b"-")?;
     }

@@ -4,6 +4,7 @@
 
 pub mod civil;
 pub mod clock;
+pub mod cutover;
 pub mod datetime64;
 mod datetime64_units;
 pub mod days;

@@ -1,6 +1,7 @@
 //! Periods and axes by their codes.
 
 use super::clock;
+use super::cutover::{self, Calendar};
 use answers::Axis;
 
 pub const MONTH: u32 = 6;
@@ -27,15 +28,18 @@ pub fn is_calendar_step(axis: Axis) -> bool {
     axis.mode == 1 && axis.period >= MONTH
 }
 
+/// The calendar of a good axis.
+pub fn calendar(axis: Axis) -> Calendar {
+    Calendar { code: axis.calendar, cutover: axis.cutover }
+}
+
 /// The refusal of an axis, or 0.
 pub fn refusal(axis: Axis) -> u32 {
-    if axis.calendar > 5 {
-        2
-    } else if axis.period > 7 || axis.mode > 1 {
-        3
-    } else if !clock::is_in_range(axis.calendar, axis.reference) {
-        5
-    } else {
-        0
+    match cutover::calendar(axis.calendar, axis.cutover) {
+        Err(2) => 2,
+        _ if axis.period > 7 || axis.mode > 1 => 3,
+        Err(number) => number,
+        Ok(_) if !clock::is_in_range(axis.calendar, axis.reference) => 5,
+        Ok(_) => 0,
     }
 }

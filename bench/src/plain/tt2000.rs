@@ -1,9 +1,9 @@
 //! TT2000 with a lent list of leap seconds: the list is tested, then searched from its end. Times count from 1972 in 64 bits without a sign.
 
+use super::cutover::PROLEPTIC_GREGORIAN;
 use super::{days, lent};
 use answers::{Date, Tt2000Answer, UtcFields, UtcFieldsAnswer};
 
-const PROLEPTIC_GREGORIAN: u32 = 1;
 const RECORD: usize = 16;
 const MOST_RECORDS: usize = 64;
 const FIRST_DAY: i64 = 730;

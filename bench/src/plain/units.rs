@@ -1,15 +1,16 @@
 //! Units text read, from the left to the right.
 
+use super::cutover::{self, Calendar};
 use super::scanner::Scanner;
 use super::{clock, lent};
-use answers::{Axis, AxisAnswer, Fields, Reading};
+use answers::{Axis, AxisAnswer, Date, Fields, Reading};
 
 struct Written {
     fields: Fields,
     zone: Option<i64>,
 }
 
-fn calendar(name: &[u8]) -> Option<u32> {
+fn code(name: &[u8]) -> Option<u32> {
     Some(match name {
         b"" | b"standard" | b"gregorian" => 0,
         b"proleptic_gregorian" | b"ISO8601" => 1,
@@ -120,34 +121,34 @@ fn units(text: &[u8]) -> Option<(u32, u32, Written)> {
     Some((mode, period, date(&mut text)?))
 }
 
-/// The axis of a units text, or the number of the refusal.
-/// The calendar of a name, in which a text of a length that is taken is read.
-fn text_calendar(name: &[u8], text: &[u8]) -> Result<u32, u32> {
+/// The calendar of a name with a cutover, in which a text of a length that is taken is read.
+fn text_calendar(name: &[u8], cutover: Date, text: &[u8]) -> Result<Calendar, u32> {
     if text.len() > 128 {
         return Err(1);
     }
-    calendar(name).ok_or(2)
+    cutover::calendar(code(name).ok_or(2u32)?, cutover)
 }
 
 /// The instant of a date as it is written.
-fn instant(calendar: u32, written: Written) -> Result<i64, u32> {
+fn instant(calendar: Calendar, written: Written) -> Result<i64, u32> {
     let zone = written.zone.ok_or(4u32)?;
     let number = clock::refusal(calendar, written.fields);
     if number != 0 {
         return Err(number);
     }
     let instant = clock::instant(calendar, written.fields) - zone;
-    if clock::is_in_range(calendar, instant) { Ok(instant) } else { Err(5) }
+    if clock::is_in_range(calendar.code, instant) { Ok(instant) } else { Err(5) }
 }
 
-pub fn read(name: &[u8], text: &[u8]) -> Result<Axis, u32> {
-    let calendar = text_calendar(name, text)?;
+/// The axis of a units text, or the number of the refusal.
+pub fn read(name: &[u8], cutover: Date, text: &[u8]) -> Result<Axis, u32> {
+    let calendar = text_calendar(name, cutover, text)?;
     let (mode, period, written) = units(text).ok_or(3u32)?;
-    Ok(Axis { calendar, period, mode, reference: instant(calendar, written)? })
+    Ok(Axis { calendar: calendar.code, period, mode, reference: instant(calendar, written)?, cutover })
 }
 
-fn read_date(name: &[u8], text: &[u8]) -> Result<i64, u32> {
-    let calendar = text_calendar(name, text)?;
+fn read_date(name: &[u8], cutover: Date, text: &[u8]) -> Result<i64, u32> {
+    let calendar = text_calendar(name, cutover, text)?;
     instant(calendar, date(&mut Scanner { rest: text }).ok_or(3u32)?)
 }
 
@@ -161,15 +162,27 @@ pub fn answer(read: Result<Axis, u32>) -> AxisAnswer {
 /// # Safety
 /// The pointers lend so many bytes each.
 #[inline(never)]
-pub unsafe extern "C" fn read_units(name: *const u8, name_len: usize, text: *const u8, text_len: usize) -> AxisAnswer {
-    answer(unsafe { read(lent(name, name_len), lent(text, text_len)) })
+pub unsafe extern "C" fn read_units(
+    name: *const u8,
+    name_len: usize,
+    cutover: Date,
+    text: *const u8,
+    text_len: usize,
+) -> AxisAnswer {
+    answer(unsafe { read(lent(name, name_len), cutover, lent(text, text_len)) })
 }
 
 /// # Safety
 /// The pointers lend so many bytes each.
 #[inline(never)]
-pub unsafe extern "C" fn read_iso(name: *const u8, name_len: usize, text: *const u8, text_len: usize) -> Reading {
-    match unsafe { read_date(lent(name, name_len), lent(text, text_len)) } {
+pub unsafe extern "C" fn read_iso(
+    name: *const u8,
+    name_len: usize,
+    cutover: Date,
+    text: *const u8,
+    text_len: usize,
+) -> Reading {
+    match unsafe { read_date(lent(name, name_len), cutover, lent(text, text_len)) } {
         Ok(instant) => Reading { instant, exact: 1, ..Default::default() },
         Err(number) => Reading { number, ..Default::default() },
     }

@@ -1,36 +1,31 @@
 //! Whole offsets read.
 
+use super::cutover::Calendar;
 use super::{civil, clock, days, period};
-use answers::{Axis, Date, Fields, Reading};
+use answers::{Axis, Fields, Reading};
 
 /// A calendar's years in a row, with no gap at year 0.
-fn row(calendar: u32, year: i64) -> i64 {
-    if days::lacks_year_0(calendar) { civil::counted(year) } else { year }
+fn row(calendar: Calendar, year: i64) -> i64 {
+    if days::lacks_year_0(calendar.code) { civil::counted(year) } else { year }
 }
 
-fn year_of_row(calendar: u32, row: i64) -> i64 {
-    if days::lacks_year_0(calendar) { civil::year_of_count(row) } else { row }
+fn year_of_row(calendar: Calendar, row: i64) -> i64 {
+    if days::lacks_year_0(calendar.code) { civil::year_of_count(row) } else { row }
 }
 
 /// Months since the month 1 of row 0.
-pub fn month_count(calendar: u32, fields: Fields) -> i64 {
+pub fn month_count(calendar: Calendar, fields: Fields) -> i64 {
     row(calendar, fields.year) * 12 + fields.month as i64 - 1
 }
 
-/// The last day of a month that is not after a day.
-fn day_at_most(calendar: u32, year: i64, month: u32, day: u32) -> u32 {
-    let day = day.min(days::month_length(calendar, year, month));
-    if days::is_dropped(calendar, Date { year, month, day }) { 4 } else { day }
-}
-
 /// The instant of some fields in another month, where its year is in range, and how many days back their day is there.
-pub fn in_month(calendar: u32, fields: Fields, months: i64) -> Option<(i64, u32)> {
+pub fn in_month(calendar: Calendar, fields: Fields, months: i64) -> Option<(i64, u32)> {
     let year = year_of_row(calendar, months.div_euclid(12));
     if !(-9999..=9999).contains(&year) {
         return None;
     }
     let month = months.rem_euclid(12) as u32 + 1;
-    let day = day_at_most(calendar, year, month, fields.day);
+    let day = days::day_at_most(calendar, year, month, fields.day);
     Some((clock::instant(calendar, Fields { year, month, day, ..fields }), fields.day - day))
 }
 
@@ -48,13 +43,14 @@ impl Start {
         if !period::is_calendar_step(axis) {
             return Start { axis, fields: Fields::default(), months: 0 };
         }
-        let fields = clock::fields(axis.calendar, axis.reference);
-        Start { axis, fields, months: month_count(axis.calendar, fields) }
+        let calendar = period::calendar(axis);
+        let fields = clock::fields(calendar, axis.reference);
+        Start { axis, fields, months: month_count(calendar, fields) }
     }
 
     fn calendar_step(&self, offset: i64) -> Option<(i64, u32)> {
         let steps = if self.axis.period == period::YEAR { offset.checked_mul(12)? } else { offset };
-        in_month(self.axis.calendar, self.fields, self.months.checked_add(steps)?)
+        in_month(period::calendar(self.axis), self.fields, self.months.checked_add(steps)?)
     }
 
     /// The instant of an offset, where it is in range, and the days back.

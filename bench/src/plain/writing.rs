@@ -12,12 +12,13 @@ fn fixed(axis: Axis, instant: i64) -> Option<i64> {
 
 /// The months between the two, tried by a step from the reference.
 fn calendar_step(axis: Axis, instant: i64) -> Option<i64> {
-    let from = clock::fields(axis.calendar, axis.reference);
-    let to = wholes::month_count(axis.calendar, clock::fields(axis.calendar, instant));
-    if wholes::in_month(axis.calendar, from, to).is_none_or(|(reached, _)| reached != instant) {
+    let calendar = period::calendar(axis);
+    let from = clock::fields(calendar, axis.reference);
+    let to = wholes::month_count(calendar, clock::fields(calendar, instant));
+    if wholes::in_month(calendar, from, to).is_none_or(|(reached, _)| reached != instant) {
         return None;
     }
-    let months = to - wholes::month_count(axis.calendar, from);
+    let months = to - wholes::month_count(calendar, from);
     match axis.period {
         period::YEAR => (months % 12 == 0).then_some(months / 12),
         _ => Some(months),
@@ -42,8 +43,8 @@ pub extern "C" fn write_instant(axis: Axis, instant: i64) -> OffsetAnswer {
 pub extern "C" fn write_fields(axis: Axis, fields: Fields) -> OffsetAnswer {
     match period::refusal(axis) {
         0 if !(-9999..=9999).contains(&fields.year) => OffsetAnswer { number: 5, offset: 0 },
-        0 => match clock::refusal(axis.calendar, fields) {
-            0 => write(axis, clock::instant(axis.calendar, fields)),
+        0 => match clock::refusal(period::calendar(axis), fields) {
+            0 => write(axis, clock::instant(period::calendar(axis), fields)),
             number => OffsetAnswer { number, offset: 0 },
         },
         number => OffsetAnswer { number, offset: 0 },

@@ -5,14 +5,16 @@ use Prim.Native.Nat.{ℕ, _≤_}
 use native.Mathlib.Omega.{arith}
 use lib.IntN.{ℤ, pos}
 use lib.Ieee.{Float}
-use Rattle.calendar.specs.Calendar.{date, exists, existsBy, dateOf, times, inYears}
+use Rattle.calendar.specs.Calendar.{date, times, daysUsed, exists, existsBy, dateOf, inYears}
+use Rattle.calendar.specs.Cutover.{cutoverAfter, lastKeptAfter, mostBack}
 use Rattle.calendar.specs.Order.{earlier}
 use Rattle.calendar.specs.Plain.{hasDay, kind, monthDays}
 use Rattle.calendar.specs.Answers.{dayNumber}
 use Rattle.calendar.specs.declared.Calendar.{Calendar}
 use Rattle.calendar.specs.declared.Calendar.the-variants.{Standard}
 use Rattle.calendar.specs.declared.Date.{Date}
-use Rattle.calendar.proofs.Months.{DaysBelow, few, dropped-ten}
+use Rattle.calendar.proofs.Cutovers.{used, most-low, most-high}
+use Rattle.calendar.proofs.Months.{DaysBelow, few, among-dropped, january-there, last-inside}
 use Rattle.calendar.proofs.Theorems.{dates-exist, date-of-number}
 use Rattle.instant.specs.Instant.{dayOf, timeOf, instantAt}
 use Rattle.instant.proofs.Theorems.{day-of-sum}
@@ -24,7 +26,8 @@ use Rattle.double.specs.Whole.{wholeOf}
 use Rattle.double.specs.declared.whole.Whole.{Whole}
 use Rattle.step.specs.Steps.{steps, stepAfter, downTo, stepsDown, dateAfter, daysBack}
 use Rattle.step.specs.declared.Part.{Part}
-use Rattle.step.proofs.Theorems.{steps-exist, back-apart, back-none, back-few}
+use Rattle.step.proofs.Theorems as Steps
+use Rattle.step.proofs.Theorems.{steps-exist, back-apart, back-none, back-few, askedIn2000, monthsTo, kept-reached}
 use Rattle.calendar_axis.specs.Steps.{dateAt, readSteps}
 use Rattle.calendar_axis.proofs.Demands.{day-read}
 use Rattle.axis.specs.Axis.{axisCheck, onGood, stepIn, stepOn, readBy, backBy, wholeBack, asWholeBack, doubleBackIn, doubleBack, readWholeOn}
@@ -36,10 +39,14 @@ use Rattle.axis.proofs.Demands.{moved}
 
 -- ---- by months and years
 
--- the bounds of document 02, CR 7
-bounded : (c : Calendar) (d : Date) (k : ℕ) → DaysBelow c (d .year) (d .month) k → ((CutoverMonth c d → ⊥) → k ≤ 3) × (k ≤ 10)
-bounded c d k (few h) = ((λ _. h), omega arith)
-bounded c d k (dropped-ten e f g h) = ((λ n. absurd (n (record { calendar = e; year = f; month = g }))), h)
+-- the bounds of document 02, CR 7 and CR 8
+bounded : (c : Calendar) (d : Date) (n : ℕ) → DaysBelow c (d .year) (d .month) n → (((k : ℕ) → CutoverMonth c k d → ⊥) → n ≤ 3) × ((k : ℕ) → CutoverMonth c k d → n ≤ mostBack (daysUsed k))
+bounded c d n (few h) = ((λ _. h), λ k m. let u = used k in omega (arith, most-low (daysUsed k) (u .fits) (u .most)))
+bounded c d n (among-dropped k e f g h) =
+    ((λ none. absurd (none k (record { calendar = e; year = sym f; month = sym g }))), λ j m. let i : k ≡ j = standard-one k j (sym e ∙ m .calendar) in subst (λ (q : ℕ). n ≤ mostBack (daysUsed q)) i h)
+  where
+    standard-one : (k j : ℕ) → Standard k ≡ Standard j → k ≡ j
+    standard-one k j e = cc
 
 module _ (a : Axis) (part : Part) (m : stepOn a ≡ Step.Date part) (n t : ℤ) (exact : Bool) (h : readWholeOn a n ≡ Reading.At t exact) where
   abbrev c : Calendar
@@ -133,14 +140,18 @@ module _ (c : Calendar) (p : Period) (part : Part) (s : stepIn Mode.Calendar p �
       let w = is-read (ap (λ (d : Date). inYears (dateAfter part c n d .year)) asked-is ∙ h) in
       (w .0, w .1, moved from part s n (w .0) true (w .1) .0 ∙ ap (dateAfter part c n) asked-is, (λ i. backBy (s i) c (from .reference) n) ∙ ap (daysBack part c n) asked-is)
 
-pub three-reached : (a : Axis) × (n t : ℤ) × (readWholeOn a n ≡ Reading.At t true) × (wholeBack a n ≡ 3)
-unfolding dateAfter daysBack steps times stepAfter stepsDown downTo exists existsBy earlier hasDay kind monthDays
+pub three-reached : (a : Axis) × (n t : ℤ) × (a .calendar ≡ Standard 0) × (readWholeOn a n ≡ Reading.At t true) × (wholeBack a n ≡ 3)
+unfolding cutoverAfter lastKeptAfter dateAfter daysBack steps times stepAfter stepsDown downTo exists existsBy earlier hasDay kind monthDays
 three-reached =
-    let w = reached Standard Period.Month Part.Month refl (date (pos 1930) 1 31) refl refl (pos 1) refl in
-    (from Standard Period.Month Part.Month refl (date (pos 1930) 1 31) refl refl (pos 1), pos 1, w .0, w .1, w .3)
+    let w = reached (Standard 0) Period.Month Part.Month refl (date (pos 1930) 1 31) refl refl (pos 1) refl in
+    (from (Standard 0) Period.Month Part.Month refl (date (pos 1930) 1 31) refl refl (pos 1), pos 1, w .0, refl, w .1, w .3)
 
-pub ten-reached : (a : Axis) × (n t : ℤ) × (readWholeOn a n ≡ Reading.At t true) × CutoverMonth (a .calendar) (dateAt (a .calendar) t) × (wholeBack a n ≡ 10)
-unfolding dateAfter daysBack steps times stepAfter stepsDown downTo exists existsBy earlier hasDay kind monthDays
-ten-reached =
-    let w = reached Standard Period.Month Part.Month refl (date (pos 1582) 9 14) refl refl (pos 1) refl in
-    (from Standard Period.Month Part.Month refl (date (pos 1582) 9 14) refl refl (pos 1), pos 1, w .0, w .1, record { calendar = refl; year = ap (λ (d : Date). d .year) (w .2); month = ap (λ (d : Date). d .month) (w .2) }, w .3)
+-- the bound in the month of the dropped dates, with every cutover
+pub most-reached : (k : ℕ) → (a : Axis) × (n t : ℤ) × (a .calendar ≡ Standard k) × (readWholeOn a n ≡ Reading.At t true) × CutoverMonth (a .calendar) k (dateAt (a .calendar) t) × (wholeBack a n ≡ mostBack (daysUsed k))
+most-reached k =
+    let x = askedIn2000 k in
+    let u = used k in
+    let there = january-there k (x .day) (omega (arith, most-low (daysUsed k) (u .fits) (u .most))) (most-high (daysUsed k) (u .fits) (u .most)) in
+    let w = reached (Standard k) Period.Month Part.Month refl x refl there (monthsTo k) (ap (λ (d : Date). inYears (d .year)) (kept-reached k) ∙ last-inside k) in
+    let d = w .2 ∙ kept-reached k in
+    (from (Standard k) Period.Month Part.Month refl x refl there (monthsTo k), monthsTo k, w .0, refl, w .1, record { calendar = refl; year = ap (λ (e : Date). e .year) d; month = ap (λ (e : Date). e .month) d }, w .3 ∙ Steps.most-reached k)

@@ -1,8 +1,9 @@
--- An axis read from a calendar name and a units text: document 01, "The units text" and "Numbers returned". A text is refused with
--- 1, 2, 3, 4, 5 in that order.
+-- An axis read from a calendar name, a cutover and a units text: document 01, "The units text" and "Numbers returned", and document 02, CR 5 and
+-- CR 8. A text is refused with 1, 2, 16, 3, then as its date is.
 use mathlib.Core.List.{List}
 use Prim.Native.Nat.{ℕ}
 use Rattle.calendar.specs.declared.Calendar.{Calendar}
+use Rattle.calendar.specs.declared.Date.{Date}
 use Rattle.instant.specs.declared.InstantAnswer.{InstantAnswer}
 use Rattle.units_text.specs.declared.Units.{Units}
 use Rattle.units_text.specs.UnitsRule.{units}
@@ -18,5 +19,5 @@ axisAt c u (InstantAnswer.Refused r) = AxisAnswer.Refused r
 abbrev pub axisOf : Calendar → Units → AxisAnswer
 axisOf c u = axisAt c u (writtenInstant c (u .reference))
 
-unfoldable pub readUnits : List ℕ → List ℕ → AxisAnswer
-readUnits name text = readText AxisAnswer.Refused units axisOf name text
+unfoldable pub readUnits : List ℕ → Date → List ℕ → AxisAnswer
+readUnits name x text = readText AxisAnswer.Refused units axisOf name x text

@@ -1,10 +1,11 @@
-// An axis read from a calendar name and a units text (specs/Units.antt). `read_units` is total.
+// An axis read from a calendar name, a cutover and a units text (specs/Units.antt). `read_units` is total.
 ghost use mathlib.Core.Path.{_≡_};
 ghost use Rattle.axis_text.specs.Units.{axisOf, readUnits};
 use axis_types::Axis;
 use calendar::Calendar;
+use calendar::Date;
+use cutover::CalendarAnswer;
 use instant::InstantAnswer;
-use named_text::TextCalendar;
 use refusal::Refusal;
 use units_text::Units;
 use units_text::UnitsAnswer;
@@ -32,13 +33,13 @@ fn axis_of(calendar: Calendar, u: Units) -> AxisAnswer
     }
 }
 
-// The axis of a units text in the calendar of a name.
-pub fn read_units(name: &[u8], text: &[u8]) -> AxisAnswer
-    ensures { λ r. ⌜ r ≡ readUnits (now (name .entry)) (now (text .entry)) ⌝ }
+// The axis of a units text in the calendar of a name with a cutover.
+pub fn read_units(name: &[u8], x: Date, text: &[u8]) -> AxisAnswer
+    ensures { λ r. ⌜ r ≡ readUnits (now (name .entry)) x (now (text .entry)) ⌝ }
 {
-    match named_text::text_calendar(name, text) {
-        TextCalendar::Refused(r) => return AxisAnswer::Refused(r),
-        TextCalendar::Is(calendar) => {
+    match named_text::text_calendar(name, x, text) {
+        CalendarAnswer::Refused(r) => return AxisAnswer::Refused(r),
+        CalendarAnswer::Is(calendar) => {
             let UnitsAnswer::Read(u) = units_text::read_units(text) else {
                 return AxisAnswer::Refused(Refusal::IllFormed);
             };

@@ -6,4 +6,4 @@ use Rattle.axis_types.specs.declared.Mode.{Mode}
 use Rattle.axis_types.specs.declared.Axis.{Axis}
 
 abbrev pub zeroAxis : Axis
-zeroAxis = record { calendar = Calendar.Standard; period = Period.Second; mode = Mode.Fixed; reference = pos 0 }
+zeroAxis = record { calendar = Calendar.Standard 0; period = Period.Second; mode = Mode.Fixed; reference = pos 0 }

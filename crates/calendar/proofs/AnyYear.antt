@@ -14,11 +14,11 @@ use Rattle.calendar.specs.declared.Calendar.the-variants.{ProlepticGrego
 use Rattle.calendar.specs.declared.Date.{Date}
 use Rattle.calendar.specs.declared.rule.Rule.{Rule}
 use Rattle.calendar.proofs.Years.{year-least}
-use Rattle.calendar.proofs.Places.{at, at-proper, at-count, within-year, grows-to, year-grows}
+use Rattle.calendar.proofs.Places.{at, at-proper, at-count, within-year, grows-to, year-grows, year-ge}
 use Rattle.calendar.proofs.Labels.{gregorian-leap}
 use Rattle.calendar.proofs.Days.{dayDate, dated-late}
 use Rattle.calendar.proofs.Rows.{cutover, plain-exists}
-use Rattle.calendar.proofs.Range.{small, year-ge}
+use Rattle.calendar.proofs.Range.{small}
 use Rattle.calendar.proofs.Counting.{numbered}
 use Rattle.calendar.proofs.Months.{first-there}
 

@@ -6,16 +6,15 @@ use native.Mathlib.Omega.{arith}
 use native.Mathlib.Decide.{decLe}
 use lib.Dec.{leb, ltb, eqb}
 use lib.IntN.{subℕ}
-use borrow.Author.Tests.{le-leb, leb-true, leb-false, lt-ltb, le-ltb, eqb-true, eq-eqb, ne-eqb, not-true, not-false}
+use borrow.Author.Tests.{le-leb, leb-true, leb-false, lt-ltb, le-ltb, ltb-true, eqb-true, eq-eqb, ne-eqb, not-true, not-false}
 use Rattle.signed.proofs.Tests.{and-parts, to-false, test-is}
 use Rattle.calendar.specs.Plain.{Plain, monthDays, date, hasDay}
 use Rattle.calendar.specs.Calendar.{CalendarRow, earlyPart, latePart, existsBy, droppedBy, dateBy, exists, dropped, dateOf, hasYearZero, rowOf}
-use Rattle.calendar.specs.Closed.{kindAt, count, yearAt, label, dayPlace, beforePlace, countedRow, counts, mixed, cutoverDay, lateFrom, lag, isEarly, inGap, ruleAt, lagAt, rowEpoch, epochDay}
+use Rattle.calendar.specs.Closed.{CountedRow, kindAt, count, yearAt, label, dayPlace, beforePlace, countedRow, counts, mixed, cutoverDay, lateFrom, lag, lastNear, nearCutover, isEarly, inGap, ruleAt, lagAt, rowEpoch, epochDay}
 use Rattle.calendar.specs.Order.{sameYear, earlier}
 use Rattle.calendar.specs.declared.Calendar.{Calendar}
 use Rattle.calendar.specs.declared.Date.{Date}
 use Rattle.calendar.specs.declared.place.Place.{Place}
-use Rattle.calendar.specs.declared.row.CountedRow.{CountedRow}
 use Rattle.calendar.specs.declared.rule.Rule.{Rule}
 use Rattle.calendar.proofs.Years.{year-most, kind-low}
 use Rattle.calendar.proofs.Tables.{month-days, month-room}
@@ -23,7 +22,7 @@ use Rattle.calendar.proofs.Places.{Proper}
 use Rattle.calendar.proofs.Ordered.{date-eq, Before, earlier-of, clash, year-eq, same-year, not-after}
 use Rattle.calendar.proofs.Labels.{kinds, there-at, name-lt}
 use Rattle.calendar.proofs.Days.{Cutover, dayDate, place-date, meeting, first-count, date-early, row-dates, dated-late, early-number, late-number}
-use Rattle.calendar.proofs.Rows.{cutover}
+use Rattle.calendar.proofs.Rows.{cutover, mixed-years}
 
 -- ---- a date of a rule, by the count of its year
 
@@ -243,3 +242,41 @@ module _ (c : Calendar) (y m d : ℕ) where
       go : (t : Bool) → cond t (lag (counts c)) 0 ≤ 300
       go true = cutover c .lag-small
       go false = omega arith
+
+  -- ---- near the cutovers, and far from them
+
+  near-mixed : nearCutover c y ≡ true → mixed (counts c) ≡ true
+  near-mixed h = and-parts (mixed (counts c)) (leb 11582 y && leb y (lastNear c)) h .0
+
+  pub near-early : nearCutover c y ≡ true → isEarly (counts c) y m d ≡ beforePlace y m d (counts c .from)
+  near-early h = rw (near-mixed h)
+
+  -- by the year alone
+  far-before : mixed (counts c) ≡ true → (leb 11582 y && leb y (lastNear c)) ≡ false → beforePlace y m d (counts c .from) ≡ ltb y 11582
+  far-before k h =
+      let p = counts c .from in
+      let w = mixed-years c k in
+      elim (decLe 11582 y) [
+        | yes a ↦ elim (decLe y (lastNear c)) [
+          | yes b ↦ absurd (true≢false (sym (λ i. le-leb 11582 y a i && le-leb y (lastNear c) b i) ∙ h))
+          | no b ↦ sym (by-other-year y m d p (λ e. omega (arith, w .to))) ∙ (le-ltb y (p .y) (omega (arith, w .to)) ∙ sym (le-ltb y 11582 a))
+        ]
+        | no a ↦ sym (by-other-year y m d p (λ e. omega (arith, w .from))) ∙ (lt-ltb y (p .y) (omega (arith, w .from)) ∙ sym (lt-ltb y 11582 (omega arith)))
+      ]
+
+  pub far-early : nearCutover c y ≡ false → isEarly (counts c) y m d ≡ (mixed (counts c) && ltb y 11582)
+  far-early = go (mixed (counts c)) refl
+    where
+      go : (t : Bool) → mixed (counts c) ≡ t → (t && (leb 11582 y && leb y (lastNear c))) ≡ false → (t && beforePlace y m d (counts c .from)) ≡ (t && ltb y 11582)
+      go true k h = far-before k h
+      go false k h = refl
+
+  -- and nothing is dropped there
+  pub far-kept : nearCutover c y ≡ false → inGap (counts c) y m d ≡ false
+  far-kept h = to-false (inGap (counts c) y m d) (λ g.
+      let w = and-parts (isEarly (counts c) y m d) (not (beforePlace y m d (counts c .until))) g in
+      let v = and-parts (mixed (counts c)) (ltb y 11582) (sym (far-early h) ∙ w .0) in
+      let p = counts c .until in
+      let u = mixed-years c (v .0) .until in
+      let l = ltb-true y 11582 (v .1) in
+      true≢false (sym (sym (by-other-year y m d p (λ e. omega (arith, u, l))) ∙ lt-ltb y (p .y) (omega (arith, u, l))) ∙ not-true (beforePlace y m d p) (w .1)))

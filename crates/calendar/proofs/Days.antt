@@ -19,7 +19,7 @@ use Rattle.calendar.specs.declared.place.Place.{Place}
 use Rattle.calendar.specs.declared.rule.Rule.{Rule}
 use Rattle.calendar.proofs.Years.{kind-low, year-least, year-most}
 use Rattle.calendar.proofs.Tables.{month-days}
-use Rattle.calendar.proofs.Places.{at, at-step, at-proper, at-is, place-split, month-first, stepPlace, place-eq, within-year, grows-to, year-grows, Proper}
+use Rattle.calendar.proofs.Places.{at, at-step, at-proper, at-is, place-at, month-first, stepPlace, place-eq, within-year, grows-to, year-grows, Proper}
 use Rattle.calendar.proofs.Ordered.{date-eq, Before}
 use Rattle.calendar.proofs.Labels.{kinds, after-at, there-at}
 use Rattle.calendar.proofs.Plain.{Follows, day, month, year, exists-of, next-is, Chain, chain}
@@ -99,7 +99,7 @@ module _ (p : Plain) where
 -- day n by the closed form of its place
 pub placed-date : (r : Rule) (z : Bool) (n : ℕ) → label z (placeOf r n) ≡ dayDate (plain r z) n
 unfolding dayDate
-placed-date r z n = let s = place-split r n in ap (label z) (sym (at-is r (placeOf r n) n (s .proper) (s .counted)))
+placed-date r z n = ap (label z) (place-at r n)
 
 -- ---- a row
 

@@ -8,6 +8,7 @@ pub mod Plain
 pub mod Joint
 pub mod Walk
 pub mod Days
+pub mod Cutovers
 pub mod Rows
 pub mod Range
 pub mod Existing

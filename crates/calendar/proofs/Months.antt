@@ -1,20 +1,29 @@
 -- Which days of a month exist: its first day does, and below a day that does not the next that does is the month's last or the last
 -- day before the cutover.
 use mathlib.Core.Path.{_≡_, refl, sym, ap, _∙_, subst}
-use mathlib.Core.Bool.{Bool, true, false, true≢false}
-use Prim.Native.Nat.{ℕ, _-_, _<_, _≤_}
+use mathlib.Core.Bool.{Bool, true, false, and-false, true≢false}
+use Prim.Native.Nat.{ℕ, _+_, _-_, _<_, _≤_}
 use native.Mathlib.Omega.{arith}
 use native.Mathlib.Decide.{decLe}
+use lib.Dec.{leb}
 use lib.IntN.{ℤ, pos}
-use Rattle.signed.proofs.Tests.{to-false}
-use Rattle.calendar.specs.Plain.{Plain, lacksYear, lastDay, date, hasDay}
-use Rattle.calendar.specs.Calendar.{CalendarRow, earlyPart, latePart, existsBy, exists, hasYearZero, rowOf}
+use borrow.Author.Tests.{le-leb}
+use Rattle.signed.proofs.Tests.{both, to-false}
+use Rattle.calendar.specs.Plain.{Plain, kind, monthDays, lacksYear, lastDay, date, hasDay}
+use Rattle.calendar.specs.Calendar.{CalendarRow, earlyPart, latePart, existsBy, exists, hasYearZero, inYears, daysUsed, rowOf}
+use Rattle.calendar.specs.Closed.{yearStart}
+use Rattle.calendar.specs.declared.rule.Rule.{Rule}
+use Rattle.calendar.specs.Cutover.{gregorian, lastCutover, mostBack}
+use Rattle.calendar.specs.Order.{earlier}
 use Rattle.calendar.specs.declared.Calendar.{Calendar}
 use Rattle.calendar.specs.declared.Calendar.the-variants.{Standard, ProlepticGregorian, Julian, NoLeap, AllLeap, Day360}
 use Rattle.calendar.specs.declared.Date.{Date}
-use Rattle.calendar.proofs.Ordered.{date-eq, Before, by-year, by-month, by-day, before?, before-trans, not-before, Comparison, earlier-than, same-as, later-than, compare, clash, in-month}
+use Rattle.calendar.proofs.Places.{year-lt, year-ge}
+use Rattle.calendar.proofs.Labels.{year-in}
+use Rattle.calendar.proofs.Ordered.{date-eq, earlier-of, Before, by-year, by-month, by-day, before?, before-trans, before-le, not-before, Comparison, earlier-than, same-as, later-than, compare, clash, in-month}
 use Rattle.calendar.proofs.Plain.{valid-of, exists-of, long}
 use Rattle.calendar.proofs.Joint.{Junction, Side, on-early, on-late, below, side-of, exists-on}
+use Rattle.calendar.proofs.Cutovers.{keptPlace, kept-label, used, in-time, dropped-in, cutover-in-month, most-cases, before-cutover}
 use Rattle.calendar.proofs.Rows.{joint}
 
 -- a month of a year that is there
@@ -196,7 +205,7 @@ in-october a b x p q = let i = in-month (pos 1582) 10 a b x p q in (i .year, i .
 
 pub one-month : (c : Calendar) → OneMonth (rowOf c)
 unfolding OneMonth
-one-month Standard x g = in-october _ _ x
+one-month (Standard k) x g = λ p q. let i = dropped-in (daysUsed k) (used k .fits) x g p q in (i .year, i .month)
 one-month ProlepticGregorian x g = in-october _ _ x
 one-month Julian x g = in-october _ _ x
 one-month NoLeap x g = in-october _ _ x
@@ -214,18 +223,26 @@ module _ (c : Calendar) (y : ℤ) (m : ℕ) (h : Month (hasYearZero c) y m) wher
   unfolding exists
   below-day = day-below (rowOf c) (joint c) (one-month c) y m h
 
--- how many days k the next that exists lies below: up to 3, or in October 1582 of `standard` up to the ten that were dropped
-pub data DaysBelow (c : Calendar) (y : ℤ) (m k : ℕ) : Type 0 where
-  few : k ≤ 3 → DaysBelow c y m k
-  dropped-ten : c ≡ Standard → y ≡ pos 1582 → m ≡ 10 → k ≤ 10 → DaysBelow c y m k
+-- how many days n the next that exists lies below: up to 3, or in the month of the last day that `standard` kept up to `mostBack`
+pub data DaysBelow (c : Calendar) (y : ℤ) (m n : ℕ) : Type 0 where
+  few : n ≤ 3 → DaysBelow c y m n
+  among-dropped : (k : ℕ) → c ≡ Standard k → rowOf c .last .year ≡ y → rowOf c .last .month ≡ m → n ≤ mostBack (daysUsed k) → DaysBelow c y m n
 
 module _ (y : ℤ) (m d : ℕ) (low : 1 ≤ d) (high : d ≤ 31) where
   until : (c : Calendar) → Month (hasYearZero c) y m → (b : Below (rowOf c) y m d) → rowOf c .first .year ≡ y → rowOf c .first .month ≡ m → b .day < rowOf c .first .day → d < rowOf c .first .day
   until c h b = first-not-passed (rowOf c) (joint c) (one-month c) y m h d low b
 
+  -- below the cutover, or up to the 31st where it is the first of the next month
+  below-cutover : (k : ℕ) → Month false y m → (b : Below (rowOf (Standard k)) y m d) → rowOf (Standard k) .last .year ≡ y → rowOf (Standard k) .last .month ≡ m → rowOf (Standard k) .last .day ≡ b .day → d - b .day ≤ mostBack (daysUsed k)
+  below-cutover k h b e f g =
+      most-cases (daysUsed k) (used k .fits) (used k .most) (λ n. d - b .day ≤ n) (λ u. omega arith) (λ u.
+      let c = cutover-in-month (daysUsed k) (used k .fits) u in
+      let n = ap (λ (x : Date). x .day) c in
+      omega (arith, until (Standard k) h b (ap (λ (x : Date). x .year) c ∙ e) (ap (λ (x : Date). x .month) c ∙ f) (omega arith)))
+
   -- only `standard` has days between the last of its early part and the first of its late one
   after-last : (c : Calendar) → Month (hasYearZero c) y m → (b : Below (rowOf c) y m d) → rowOf c .last .year ≡ y → rowOf c .last .month ≡ m → rowOf c .last .day ≡ b .day → DaysBelow c y m (d - b .day)
-  after-last Standard h b e f g = dropped-ten refl (sym e) (sym f) (omega (arith, until Standard h b e f (omega arith)))
+  after-last (Standard k) h b e f g = among-dropped k refl e f (below-cutover k h b e f g)
   after-last ProlepticGregorian h b e f g = absurd (omega (arith, b .less, until ProlepticGregorian h b e f (omega arith)))
   after-last Julian h b e f g = absurd (omega (arith, b .less, until Julian h b e f (omega arith)))
   after-last NoLeap h b e f g = absurd (omega (arith, b .less, until NoLeap h b e f (omega arith)))
@@ -238,3 +255,39 @@ module _ (y : ℤ) (m d : ℕ) (low : 1 ≤ d) (high : d ≤ 31) where
       by-reason : (k : ℕ) → Reason (rowOf c) y m k → k ≡ b .day → DaysBelow c y m (d - b .day)
       by-reason k (month-end p) e = few (omega (arith, long p y m (h .low) (h .high)))
       by-reason k (last-kept f g) e = after-last c h b f g e
+
+-- ---- in the month of the last day that `standard` kept
+
+module _ (k : ℕ) where
+  abbrev l : Date
+  l = rowOf (Standard k) .last
+
+  -- it exists, and none of the days above it, as far as they are stepped back
+  pub last-there : exists (Standard k) l ≡ true
+  unfolding exists
+  last-there = exists-on (rowOf (Standard k)) (joint (Standard k)) l (on-early (joint (Standard k) .last) (not-before l))
+
+  pub past-last : (e : ℕ) → l .day < e → e ≤ l .day + mostBack (daysUsed k) → exists (Standard k) (date (l .year) (l .month) e) ≡ false
+  unfolding exists existsBy
+  past-last e g h =
+      let x = date (l .year) (l .month) e in
+      let r = rowOf (Standard k) in
+      rw (earlier-of x (r .first) (before-cutover (daysUsed k) (used k .fits) (used k .most) e h), earlier-of l x (by-day refl refl g), and-false (hasDay (earlyPart r) x))
+
+  -- January 2000 lies after every cutover, and has 31 days
+  pub january-there : (d : ℕ) → 1 ≤ d → d ≤ 31 → exists (Standard k) (date (pos 2000) 1 d) ≡ true
+  unfolding exists earlier monthDays kind
+  january-there d a b =
+      let x = date (pos 2000) 1 d in
+      let r = rowOf (Standard k) in
+      exists-on r (joint (Standard k)) x (on-late (has-day gregorian (pos 2000) 1 d (record { year = refl; low = omega arith; high = omega arith }) a (omega arith)) (λ f.
+      true≢false (sym (earlier-of x lastCutover (before-le x (r .first) lastCutover f (λ g. true≢false (sym (earlier-of lastCutover (r .first) g) ∙ in-time (daysUsed k) (used k .most))))) ∙ refl)))
+
+  pub last-inside : inYears (l .year) ≡ true
+  unfolding yearStart
+  last-inside =
+      let y = keptPlace (daysUsed k) .y in
+      let n = 4230602 + daysUsed k in
+      let high = year-lt Rule.Julian n 11970 (omega (arith, used k .most)) in
+      let low = year-ge Rule.Julian n 11582 (omega arith) in
+      ap (λ (x : Date). inYears (x .year)) (kept-label (daysUsed k)) ∙ (year-in false y ∙ both (leb 2 y) (leb y 19999) (le-leb 2 y (omega arith)) (le-leb y 19999 (omega arith)))

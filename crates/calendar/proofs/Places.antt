@@ -142,6 +142,22 @@ at-count r n = at-facts r n .1
 pub at-is : (r : Rule) (p : Place) (n : ℕ) → Proper r p → count r p ≡ n → at r n ≡ p
 at-is r p n h e = same-place r (at r n) p (at-proper r n) h (at-count r n ∙ sym e)
 
+-- ---- the year of a place, from its number
+
+pub year-lt : (r : Rule) (n y : ℕ) → n < yearStart r y → at r n .y < y
+year-lt r n y h =
+    elim (decLe y (at r n .y)) [
+      | yes g ↦ omega (arith, grows-to (yearStart r) (year-grows r) y (at r n .y) g, within-year r (at r n) (at-proper r n) .0, at-count r n)
+      | no g ↦ omega arith
+    ]
+
+pub year-ge : (r : Rule) (n y : ℕ) → yearStart r y ≤ n → y ≤ at r n .y
+year-ge r n y h =
+    elim (decLe y (at r n .y)) [
+      | yes g ↦ g
+      | no g ↦ omega (arith, grows-to (yearStart r) (year-grows r) (suc (at r n .y)) y (omega arith), within-year r (at r n) (at-proper r n) .1, at-count r n)
+    ]
+
 -- ---- the place of a day from its year
 
 -- day e of year y, as day i of month m
@@ -178,6 +194,9 @@ place-split Rule.Julian n = split-march Rule.Julian (λ y. of-leap-low (eqb (y %
 place-split Rule.Common n = split-march Rule.Common (λ y. omega arith) n _ (year-day Rule.Common (n + 306))
 place-split Rule.Leap n = split-march Rule.Leap (λ y. omega arith) n _ (year-day Rule.Leap (n + 306))
 place-split Rule.Thirty n = split-thirty n _ (year-day Rule.Thirty n)
+
+pub place-at : (r : Rule) (n : ℕ) → placeOf r n ≡ at r n
+place-at r n = let s = place-split r n in sym (at-is r (placeOf r n) n (s .proper) (s .counted))
 
 -- the numbers of the place of a day that is not far are small
 pub place-small : (r : Rule) (n : ℕ) → n < 2 ^ 30 → (placeOf r n .y < 2 ^ 31) × ((placeOf r n .m < 12) × (placeOf r n .i < 31))

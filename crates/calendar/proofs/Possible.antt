@@ -1,6 +1,5 @@
--- What no date of any calendar has, months but 1 to 12 and days but 1 to 31; and the days that were dropped, the ten after 1582-10-04 of
--- `standard`.
-use mathlib.Core.Path.{_≡_, refl, sym, ap, _∙_}
+-- What no date of any calendar has, months but 1 to 12 and days but 1 to 31; and the days that were dropped, which `standard` lists.
+use mathlib.Core.Path.{_≡_, refl, ap, _∙_}
 use mathlib.Core.Bool.{true, false, _&&_}
 use Prim.Native.Nat.{ℕ}
 use native.Mathlib.Omega.{arith}
@@ -9,15 +8,17 @@ use lib.IntN.{pos}
 use borrow.Author.Tests.{leb-true}
 use Rattle.signed.proofs.Tests.{to-false, both, and-parts}
 use Rattle.calendar.specs.Plain.{plain, hasDay, kind, monthDays}
-use Rattle.calendar.specs.Calendar.{CalendarRow, date, rowOf, earlyPart, exists, droppedBy, dropped}
+use Rattle.calendar.specs.Calendar.{CalendarRow, date, daysUsed, rowOf, earlyPart, exists, droppedBy, dropped}
+use Rattle.calendar.specs.Cutover.{julian, droppedDates, isListed}
 use Rattle.calendar.specs.Order.{earlier}
 use Rattle.calendar.specs.Answers.{isMonth, isMonthDay}
 use Rattle.calendar.specs.declared.Calendar.{Calendar}
 use Rattle.calendar.specs.declared.Calendar.the-variants.{Standard, ProlepticGregorian, Julian, NoLeap, AllLeap, Day360}
 use Rattle.calendar.specs.declared.Date.{Date}
 use Rattle.calendar.specs.declared.rule.Rule.{Rule}
-use Rattle.calendar.proofs.Ordered.{date-eq, Before, by-day, before-of, earlier-of, InMonth, in-month}
+use Rattle.calendar.proofs.Ordered.{Before, before-of, earlier-of, in-month}
 use Rattle.calendar.proofs.Plain.{exists-of}
+use Rattle.calendar.proofs.Cutovers.{used, dropped-in, dropped-listed, listed-between}
 use Rattle.calendar.proofs.Rows.{plain-exists}
 use Rattle.calendar.proofs.Existing.{exists-possible}
 use Rattle.calendar.proofs.Months.{first-there}
@@ -53,13 +54,20 @@ between r x h =
     let w = and-parts (earlier x (r .first)) (hasDay (earlyPart r) x && earlier (r .last) x) h in
     (before-of (r .last) x (and-parts (hasDay (earlyPart r) x) (earlier (r .last) x) (w .1) .1), before-of x (r .first) (w .0))
 
+early-has : (r : CalendarRow) (x : Date) → droppedBy r x ≡ true → hasDay (earlyPart r) x ≡ true
+unfolding droppedBy
+early-has r x h = and-parts (hasDay (earlyPart r) x) (earlier (r .last) x) (and-parts (earlier x (r .first)) (hasDay (earlyPart r) x && earlier (r .last) x) h .1) .0
+
 -- no date lies between two days that follow each other
 none-between : (x : Date) → Before (date (pos 1582) 10 14) x × Before x (date (pos 1582) 10 15) → ⊥
 none-between x (a, b) = let w = in-month (pos 1582) 10 14 15 x a b in omega (arith, w .after, w .before)
 
-pub dropped-only : (c : Calendar) (x : Date) → dropped c x ≡ true → (c ≡ Standard) × InMonth (pos 1582) 10 4 15 x
+pub dropped-only : (c : Calendar) (x : Date) → dropped c x ≡ true → (k : ℕ) × (c ≡ Standard k) × (isListed x (droppedDates (daysUsed k)) ≡ true)
 unfolding dropped
-dropped-only Standard x h = let w = between (rowOf Standard) x h in (refl, in-month (pos 1582) 10 4 15 x (w .0) (w .1))
+dropped-only (Standard k) x h =
+    let u = used k in
+    let w = between (rowOf (Standard k)) x h in
+    (k, refl, dropped-listed (daysUsed k) (u .fits) (u .most) x (dropped-in (daysUsed k) (u .fits) x (early-has (rowOf (Standard k)) x h) (w .0) (w .1)))
 dropped-only ProlepticGregorian x h = absurd (none-between x (between (rowOf ProlepticGregorian) x h))
 dropped-only Julian x h = absurd (none-between x (between (rowOf Julian) x h))
 dropped-only NoLeap x h = absurd (none-between x (between (rowOf NoLeap) x h))
@@ -70,13 +78,9 @@ pub never-dropped : (x : Date) → dropped ProlepticGregorian x ≡ false
 unfolding dropped
 never-dropped x = to-false (dropped ProlepticGregorian x) (λ h. none-between x (between (rowOf ProlepticGregorian) x h))
 
-pub dropped-all : (x : Date) → InMonth (pos 1582) 10 4 15 x → dropped Standard x ≡ true
-unfolding dropped droppedBy monthDays kind
-dropped-all x m =
-    let d = x .day in
-    let y = date (pos 1582) 10 d in
-    let e : x ≡ y = date-eq (sym (m .year)) (sym (m .month)) refl in
-    let has : hasDay (plain Rule.Julian false) y ≡ true = exists-of (plain Rule.Julian false) y (record { month-low = omega arith; month-high = omega arith; day-low = omega (arith, m .after); day-high = omega (arith, m .before); there = refl }) in
-    ap (droppedBy (rowOf Standard)) e
-    ∙ both (earlier y (date (pos 1582) 10 15)) (hasDay (plain Rule.Julian false) y && earlier (date (pos 1582) 10 4) y) (earlier-of y (date (pos 1582) 10 15) (by-day refl refl (m .before)))
-    (both (hasDay (plain Rule.Julian false) y) (earlier (date (pos 1582) 10 4) y) has (earlier-of (date (pos 1582) 10 4) y (by-day refl refl (m .after))))
+pub dropped-all : (k : ℕ) (x : Date) → isListed x (droppedDates (daysUsed k)) ≡ true → dropped (Standard k) x ≡ true
+unfolding dropped droppedBy
+dropped-all k x h =
+    let r = rowOf (Standard k) in
+    let w = listed-between (daysUsed k) (used k .fits) (used k .most) x h in
+    both (earlier x (r .first)) (hasDay julian x && earlier (r .last) x) (earlier-of x (r .first) (w .2)) (both (hasDay julian x) (earlier (r .last) x) (w .0) (earlier-of (r .last) x (w .1)))

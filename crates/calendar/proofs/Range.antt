@@ -18,27 +18,13 @@ use Rattle.calendar.specs.declared.Calendar.{Calendar}
 use Rattle.calendar.specs.declared.Date.{Date}
 use Rattle.calendar.specs.declared.rule.Rule.{Rule}
 use Rattle.calendar.proofs.Years.{year-least, year-most}
-use Rattle.calendar.proofs.Places.{at, at-proper, at-count, within-year, grows-to, year-grows}
+use Rattle.calendar.proofs.Places.{at, within-year, grows-to, year-grows, year-lt, year-ge}
 use Rattle.calendar.proofs.Labels.{firstYear, year-in}
 use Rattle.calendar.proofs.Walk.{years-rise}
 use Rattle.calendar.proofs.Days.{Cutover, dayDate, date-early, date-late, first-count, late-epoch, row-chain, row-start, row-dates}
 use Rattle.calendar.proofs.Rows.{cutover}
 
 -- ---- the year of a place, from its number
-
-year-lt : (r : Rule) (n y : ℕ) → n < yearStart r y → at r n .y < y
-year-lt r n y h =
-    elim (decLe y (at r n .y)) [
-      | yes g ↦ omega (arith, grows-to (yearStart r) (year-grows r) y (at r n .y) g, within-year r (at r n) (at-proper r n) .0, at-count r n)
-      | no g ↦ omega arith
-    ]
-
-pub year-ge : (r : Rule) (n y : ℕ) → yearStart r y ≤ n → y ≤ at r n .y
-year-ge r n y h =
-    elim (decLe y (at r n .y)) [
-      | yes g ↦ g
-      | no g ↦ omega (arith, grows-to (yearStart r) (year-grows r) (suc (at r n .y)) y (omega arith), within-year r (at r n) (at-proper r n) .1, at-count r n)
-    ]
 
 -- a day number lies from year y on exactly where its place does
 from-year : (r : Rule) (n y : ℕ) → leb y (at r n .y) ≡ leb (yearStart r y) n

@@ -1,12 +1,14 @@
 -- The rows of the six calendars meet what a cutover must satisfy; and a plain row is its plain calendar.
 use mathlib.Core.Path.{_≡_, refl, sym, ap, _∙_}
-use mathlib.Core.Bool.{Bool, true, false, _&&_, cond, true≢false}
+use Prim.Native.Nat.{ℕ, zero, suc, _+_, _≤_}
+use mathlib.Core.Bool.{Bool, true, false, _&&_, cond, false≢true}
 use native.Mathlib.Omega.{arith}
 use lib.IntN.{pos}
 use borrow.Author.Tests.{lt-ltb}
-use Rattle.calendar.specs.Plain.{monthDays, plain, lastDay, date, dayAfter, dayBefore, hasDay}
-use Rattle.calendar.specs.Calendar.{plainRow, rowOf, nextBy, prevBy, existsBy}
-use Rattle.calendar.specs.Closed.{kindAt, yearStart, monthStart, count, yearAt, cutoverDay, lag}
+use Rattle.calendar.specs.Plain.{plain, times, lastDay, date, dayAfter, dayBefore, hasDay}
+use Rattle.calendar.specs.Calendar.{plainRow, daysUsed, rowOf, nextBy, prevBy, existsBy}
+use Rattle.calendar.specs.Closed.{kindAt, yearAt, counts, mixed, lastNear, cutoverDay, lateFrom, lag}
+use Rattle.calendar.specs.Cutover.{cutoverAfter}
 use Rattle.calendar.specs.Order.{earlier, sameDate}
 use Rattle.calendar.specs.declared.Calendar.{Calendar}
 use Rattle.calendar.specs.declared.Calendar.the-variants.{Standard, ProlepticGregorian, Julian, NoLeap, AllLeap, Day360}
@@ -17,7 +19,8 @@ use Rattle.calendar.proofs.Tables.{month-days}
 use Rattle.calendar.proofs.Ordered.{date-eq, by-day, same-of, not-after}
 use Rattle.calendar.proofs.Plain.{long}
 use Rattle.calendar.proofs.Joint.{Junction}
-use Rattle.calendar.proofs.Days.{Cutover, junction}
+use Rattle.calendar.proofs.Days.{Cutover, junction, no-lag}
+use Rattle.calendar.proofs.Cutovers.{used, standard-cutover, lag-77, standard-mixed, cutover-day, until-from, from-from, from-to}
 
 name-1582 : (z : Bool) → yearAt z 11582 ≡ pos 1582
 name-1582 true = refl
@@ -41,25 +44,8 @@ plain-cutover r z =
       before-1970 = omega arith;
     }
 
-standard-cutover : Cutover (rowOf Standard)
-unfolding cutoverDay lag count yearStart monthStart monthDays kindAt
-standard-cutover =
-    record {
-      last-at = refl;
-      last-proper = record { month = omega arith; day = omega arith };
-      first-at = refl;
-      first-proper = record { month = omega arith; day = omega arith };
-      rises = by-day refl refl (omega arith);
-      behind = omega arith;
-      lag-small = omega arith;
-      alone = λ h. absurd (true≢false h);
-      early-year = omega arith;
-      late-year = omega arith;
-      before-1970 = omega arith;
-    }
-
 pub cutover : (c : Calendar) → Cutover (rowOf c)
-cutover Standard = standard-cutover
+cutover (Standard k) = standard-cutover (daysUsed k) (used k .most)
 cutover ProlepticGregorian = plain-cutover _ _
 cutover Julian = plain-cutover _ _
 cutover NoLeap = plain-cutover _ _
@@ -68,6 +54,41 @@ cutover Day360 = plain-cutover _ _
 
 pub joint : (c : Calendar) → Junction (rowOf c)
 joint c = junction (rowOf c) (cutover c)
+
+-- ---- what is mixed, lags, and is late from the cutover on
+
+pub mixed-lag : (c : Calendar) → mixed (counts c) ≡ true → lag (counts c) ≡ 77
+mixed-lag (Standard k) h = lag-77 (daysUsed k)
+mixed-lag ProlepticGregorian h = absurd (false≢true h)
+mixed-lag Julian h = absurd (false≢true h)
+mixed-lag NoLeap h = absurd (false≢true h)
+mixed-lag AllLeap h = absurd (false≢true h)
+mixed-lag Day360 h = absurd (false≢true h)
+
+pub plain-lag : (c : Calendar) → mixed (counts c) ≡ false → lag (counts c) ≡ 0
+plain-lag c h = no-lag (rowOf c) (cutover c) h
+
+-- in the years from 1582 on in which it may be
+pub record MixedYears (c : Calendar) : Type 0 where
+  pub until : 11582 ≤ counts c .until .y
+  pub from : 11582 ≤ counts c .from .y
+  pub to : counts c .from .y ≤ lastNear c
+
+first-year : counts (Standard zero) .from .y ≡ 11582
+unfolding cutoverAfter times
+first-year = refl
+
+pub mixed-years : (c : Calendar) → mixed (counts c) ≡ true → MixedYears c
+mixed-years (Standard zero) h = record { until = until-from zero; from = from-from zero; to = omega (arith, first-year) }
+mixed-years (Standard (suc k)) h = record { until = until-from (daysUsed (suc k)); from = from-from (daysUsed (suc k)); to = from-to (daysUsed (suc k)) (used (suc k) .most) }
+mixed-years ProlepticGregorian h = absurd (false≢true h)
+mixed-years Julian h = absurd (false≢true h)
+mixed-years NoLeap h = absurd (false≢true h)
+mixed-years AllLeap h = absurd (false≢true h)
+mixed-years Day360 h = absurd (false≢true h)
+
+pub late-from : (k : ℕ) → lateFrom (counts (Standard k)) ≡ 4230526 + daysUsed k
+late-from k = rw (standard-mixed (daysUsed k)) (cutover-day (daysUsed k))
 
 -- ---- a plain row has the days of its plain calendar
 

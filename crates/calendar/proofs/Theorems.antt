@@ -13,10 +13,11 @@ use Rattle.signed.proofs.Differences.{sub-low, sub-high}
 use Rattle.calendar.specs.Plain.{lacksYear}
 use Rattle.calendar.specs.Calendar.{hasYearZero, yearAfter, next, prev, dateOf, DaysOn, exists, inYears, date, rowOf, nextBy, prevBy, existsBy, dateBy, epoch, times}
 use Rattle.calendar.specs.Order.{earlier}
+use Rattle.calendar.specs.Cutover.{cutoverAfter}
 use Rattle.calendar.specs.Answers.{isPossible, dayNumber, dayWith}
-use Rattle.calendar.specs.Closed.{yearAt, count, placeOf, label, dayPlace, counts, lateFrom, lag, ruleAt, lagAt, dayByRule, epochDay, ruleOfDay}
+use Rattle.calendar.specs.Closed.{yearStart, yearAt, count, placeOf, label, dayPlace, counts, lateFrom, lag, ruleAt, lagAt, dayByRule, epochDay, ruleOfDay}
 use Rattle.calendar.specs.declared.Calendar.{Calendar}
-use Rattle.calendar.specs.declared.Calendar.the-variants.{Standard, Julian}
+use Rattle.calendar.specs.declared.Calendar.the-variants.{Standard, ProlepticGregorian, Julian}
 use Rattle.calendar.specs.declared.Date.{Date}
 use Rattle.calendar.specs.declared.DayAnswer.{DayAnswer}
 use Rattle.calendar.specs.declared.place.Place.{Place}
@@ -27,7 +28,9 @@ use Rattle.calendar.proofs.Labels.{year-low, year-high}
 use Rattle.calendar.proofs.Plain.{Chain}
 use Rattle.calendar.proofs.Walk as Walk
 use Rattle.calendar.proofs.Joint.{next-early, exists-early}
-use Rattle.calendar.proofs.Days.{placed-date, row-chain, row-start, dated-early, dated-late, late-small}
+use Rattle.calendar.proofs.Days.{dayDate, placed-date, row-chain, row-start, dated-early, dated-late, late-small}
+use Rattle.calendar.proofs.Places.{at, year-ge}
+use Rattle.calendar.proofs.Cutovers.{cutover-is}
 use Rattle.calendar.proofs.Rows.{cutover, joint, plain-next, plain-exists}
 use Rattle.calendar.proofs.Range as Range
 use Rattle.calendar.proofs.Range.{lowDay, highDay}
@@ -165,20 +168,35 @@ answered rest c x z = go (day-outcome rest c x)
 
 -- ---- `julian` beside `standard`: through the last day that `standard` keeps they have the same dates, each followed by the same
 
-pub same-next : (x : Date) → earlier x (rowOf Standard .last) ≡ true → next Julian x ≡ next Standard x
-unfolding next
-same-next x h = plain-next Rule.Julian false x ∙ sym (next-early (rowOf Standard) (joint Standard) x (before-of x (rowOf Standard .last) h))
+module _ (k : ℕ) where
+  abbrev kept : Date
+  kept = rowOf (Standard k) .last
 
-pub same-dates : (x : Date) → earlier (rowOf Standard .last) x ≡ false → exists Julian x ≡ exists Standard x
-unfolding exists
-same-dates x h =
-    plain-exists Rule.Julian false x
-    ∙ sym (exists-early (rowOf Standard) (joint Standard) x (λ b. true≢false (sym (earlier-of (rowOf Standard .last) x b) ∙ h)))
+  pub same-next : (x : Date) → earlier x kept ≡ true → next Julian x ≡ next (Standard k) x
+  unfolding next
+  same-next x h = plain-next Rule.Julian false x ∙ sym (next-early (rowOf (Standard k)) (joint (Standard k)) x (before-of x kept h))
 
--- steps by years count the same years
-pub same-years : (y : ℤ) → yearAfter Julian y ≡ yearAfter Standard y
-unfolding yearAfter
-same-years y = refl
+  pub same-dates : (x : Date) → earlier kept x ≡ false → exists Julian x ≡ exists (Standard k) x
+  unfolding exists
+  same-dates x h =
+      plain-exists Rule.Julian false x
+      ∙ sym (exists-early (rowOf (Standard k)) (joint (Standard k)) x (λ b. true≢false (sym (earlier-of kept x b) ∙ h)))
+
+  -- steps by years count the same years
+  pub same-years : (y : ℤ) → yearAfter Julian y ≡ yearAfter (Standard k) y
+  unfolding yearAfter
+  same-years y = refl
+
+-- ---- cutovers, which are Gregorian dates after year 0, as dates of `proleptic_gregorian`
+
+pub cutover-date : (k : ℕ) → dateOf ProlepticGregorian (subℕ (4230526 + k) (epochDay ProlepticGregorian)) ≡ cutoverAfter k
+unfolding dateOf dayDate yearStart
+cutover-date k =
+    let n = 4230526 + k in
+    let y = at Rule.Gregorian n .y in
+    let h = year-ge Rule.Gregorian n 11582 (omega arith) in
+    dated-late (rowOf ProlepticGregorian) (cutover ProlepticGregorian) n (omega arith)
+    ∙ (date-eq (sub-high y 10000 (omega arith) ∙ sym (year-high y (omega arith))) refl refl ∙ sym (cutover-is k))
 
 -- a calendar without a year 0 has no date in that year
 pub no-year-0 : (c : Calendar) (m d : ℕ) → hasYearZero c ≡ false → exists c (date (pos 0) m d) ≡ false

@@ -8,6 +8,8 @@ use lib.IntN.{ℤ, pos, negsuc}
 use lib.Signed.{leZ}
 use Rattle.calendar.specs.Plain.{Plain, plain, nextYear, prevYear, dayAfter, dayBefore, hasDay}
 pub use Rattle.calendar.specs.Plain.{date}
+unfoldable pub use Rattle.calendar.specs.Plain.{times}
+use Rattle.calendar.specs.Cutover.{cutoverAfter, lastKeptAfter, allowedAfter}
 use Rattle.calendar.specs.Order.{earlier, sameDate}
 use Rattle.calendar.specs.declared.Calendar.{Calendar}
 use Rattle.calendar.specs.declared.Calendar.the-variants.{Standard, ProlepticGregorian, Julian, NoLeap, AllLeap, Day360}
@@ -34,10 +36,18 @@ latePart r = plain (r .late) (r .zero)
 abbrev pub plainRow : Rule → Bool → CalendarRow
 plainRow r z = record { zero = z; early = r; late = r; last = date (pos 1582) 10 14; first = date (pos 1582) 10 15 }
 
--- `standard` joins the Julian calendar, through 1582-10-04, to the Gregorian from 1582-10-15 on. It and `julian` lack the year 0 that all
--- others have
+-- `standard` joins the Julian calendar, through the last day kept, to the Gregorian from the cutover on
+abbrev pub standardRow : ℕ → CalendarRow
+standardRow k = record { zero = false; early = Rule.Julian; late = Rule.Gregorian; last = lastKeptAfter k; first = cutoverAfter k }
+
+-- it carries its cutover as the days after 1582-10-15. Those of a cutover that is not allowed are read as 0; no call of the library makes them
+abbrev pub daysUsed : ℕ → ℕ
+daysUsed zero = zero
+daysUsed (suc k) = cond (allowedAfter (suc k)) (suc k) zero
+
+-- `standard` and `julian` lack the year 0 that all others have
 abbrev pub rowOf : Calendar → CalendarRow
-rowOf Standard = record { zero = false; early = Rule.Julian; late = Rule.Gregorian; last = date (pos 1582) 10 4; first = date (pos 1582) 10 15 }
+rowOf (Standard k) = standardRow (daysUsed k)
 rowOf ProlepticGregorian = plainRow Rule.Gregorian true
 rowOf Julian = plainRow Rule.Julian false
 rowOf NoLeap = plainRow Rule.Common true
@@ -66,10 +76,6 @@ droppedBy r x = earlier x (r .first) && (hasDay (earlyPart r) x && earlier (r .l
 
 abbrev pub epoch : Date
 epoch = date (pos 1970) 1 1
-
-unfoldable pub times : {A : Type 0} → ℕ → (A → A) → A → A
-times zero f x = x
-times (suc n) f x = f (times n f x)
 
 unfoldable pub dateBy : CalendarRow → ℤ → Date
 dateBy r (pos n) = times n (nextBy r) epoch

@@ -14,7 +14,7 @@ use Rattle.calendar.specs.declared.Date.{Date}
 use Rattle.calendar.specs.declared.rule.Rule.{Rule}
 use Rattle.calendar.specs.declared.rule.YearDay.{YearDay}
 use Rattle.calendar.specs.declared.place.Place.{Place}
-use Rattle.calendar.specs.declared.row.CountedRow.{CountedRow}
+use Rattle.calendar.specs.declared.row.Parts.{Parts}
 use Rattle.calendar.specs.declared.YearCount.{YearCount}
 use Rattle.calendar.specs.declared.FoundDay.{FoundDay}
 use Rattle.calendar.specs.declared.gregorian.DaySince.{DaySince}
@@ -138,12 +138,23 @@ beforePlace y m d p = ltb y (p .y) || (eqb y (p .y) && (ltb m (p .m + 1) || (eqb
 -- ---- rows
 
 -- a row whose cutover is counted: the early part ends before the place `until`, which is that after its last day as it is written
+pub record CountedRow : Type 0 where
+  pub zero : Bool
+  pub early : Rule
+  pub late : Rule
+  pub until : Place
+  pub from : Place
+
 abbrev pub countedRow : CalendarRow → CountedRow
 countedRow r = record { zero = r .zero; early = r .early; late = r .late; until = placeAt (lift (r .last .year) 10000) (r .last .month - 1) (r .last .day); from = dayPlace (lift (r .first .year) 10000) (r .first .month) (r .first .day) }
 
--- a row whose late part begins on 1582-10-15
-abbrev pub octoberRow : Bool → Rule → Rule → ℕ → CountedRow
-octoberRow z a b i = record { zero = z; early = a; late = b; until = placeAt 11582 9 i; from = placeAt 11582 9 14 }
+-- its two rules, and whether it has a year 0
+abbrev pub partsOf : CountedRow → Parts
+partsOf k = record { zero = k .zero; early = k .early; late = k .late }
+
+-- 1582-10-15, where the two parts of a plain calendar meet
+abbrev pub meetingPlace : Place
+meetingPlace = placeAt 11582 9 14
 
 -- the two parts of a calendar that is not mixed meet at one place
 abbrev pub mixed : CountedRow → Bool
@@ -212,6 +223,20 @@ firstDay c = rowStart (counts c)
 
 abbrev pub endDay : Calendar → ℕ
 endDay c = rowEnd (counts c)
+
+-- the last year in which a calendar may have its cutover: 1582 where it has that of 1582 or none, and else 1923
+abbrev pub lastNear : Calendar → ℕ
+lastNear (Calendar.Standard zero) = 11582
+lastNear (Calendar.Standard (suc k)) = 11923
+lastNear Calendar.ProlepticGregorian = 11582
+lastNear Calendar.Julian = 11582
+lastNear Calendar.NoLeap = 11582
+lastNear Calendar.AllLeap = 11582
+lastNear Calendar.Day360 = 11582
+
+-- a mixed calendar may have its cutover in year y
+abbrev pub nearCutover : Calendar → ℕ → Bool
+nearCutover c y = mixed (counts c) && (leb 11582 y && leb y (lastNear c))
 
 -- the number w stands for the place of day z
 pub record PlaceOfDay (c : Calendar) (z : ℤ) (w : ℕ) : Type 0 where

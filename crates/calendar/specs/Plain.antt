@@ -98,6 +98,10 @@ lacksYear z y = not z && isYear 0 y
 abbrev pub date : ℤ → ℕ → ℕ → Date
 date y m d = record { year = y; month = m; day = d }
 
+unfoldable pub times : {A : Type 0} → ℕ → (A → A) → A → A
+times zero f x = x
+times (suc n) f x = f (times n f x)
+
 -- the next day of the month, the first of the next month, or of the next year
 unfoldable pub dayAfter : Plain → Date → Date
 dayAfter p x =

@@ -1,14 +1,14 @@
 // From a day, counted from the first place of the calendar's late rule, to its date.
 ghost use mathlib.Core.Path.{_≡_};
-ghost use Prim.Native.Nat.{_<_, _^_};
+ghost use mathlib.Core.Bool.{cond};
+ghost use Prim.Native.Nat.{_+_, _<_, _^_};
 ghost use lib.IntN.{subℕ};
 ghost use Rattle.calendar.specs.Calendar.{hasYearZero};
-ghost use Rattle.calendar.specs.Closed.{yearAt, label, unpackedPlace, counts, ruleOfDay, dayByRule, epochDay, PlaceOfDay};
+ghost use Rattle.calendar.specs.Closed.{yearAt, label, unpackedPlace, counts, lag, epochDay, PlaceOfDay};
 use crate::Calendar;
 use crate::Date;
 use crate::place;
 use crate::row;
-use crate::rule::Rule;
 
 // The name of year y, in a calendar with or without a year 0.
 pub fn year_name(zero: bool, y: u64) -> i64
@@ -24,23 +24,12 @@ pub fn year_name(zero: bool, y: u64) -> i64
     return signed::unbiased(y + (0x8000_0000_0000_0000 - 10000));
 }
 
-// The rule of the part that day n belongs to.
-fn rule_of_day(c: Calendar, n: u64) -> Rule
-    ensures { λ r. ⌜ r ≡ ruleOfDay (counts c) n ⌝ }
-{
-    let r = row::row_of(c);
-    if n < row::late_from(c) {
-        return r.early;
-    }
-    return r.late;
-}
-
-// The count of day n by that rule.
-fn day_by_rule(c: Calendar, n: u64) -> u64
+// The count of day n by the rule of its part, the early or the late one.
+fn day_by_rule(c: Calendar, n: u64, early: bool) -> u64
     requires { ⌜ n < 2 ^ 30 ⌝ }
-    ensures { λ d. ⌜ d ≡ dayByRule (counts c) n ⌝ }
+    ensures { λ d. ⌜ d ≡ cond early (n + lag (counts c)) n ⌝ }
 {
-    if n < row::late_from(c) {
+    if early {
         return n + row::lag_of(c);
     }
     return n;
@@ -51,7 +40,8 @@ pub fn packed_place(c: Calendar, n: u64) -> u64
     requires { ⌜ n < 2 ^ 30 ⌝ }
     ensures { λ w. ⌜ PlaceOfDay c (subℕ n (epochDay c)) w ⌝ }
 {
-    let p = place::place_of(rule_of_day(c, n), day_by_rule(c, n));
+    let early = row::is_early_day(c, n);
+    let p = place::place_of(row::rule_of(c, early), day_by_rule(c, n, early));
     512 * p.y + 32 * p.m as u64 + p.i
 }
 

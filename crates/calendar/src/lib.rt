@@ -10,6 +10,7 @@ ghost use Rattle.calendar.specs.Closed.{epochDay, firstYear, firstDay, e
 use refusal::Refusal;
 
 pub mod civil;
+pub mod cutover;
 pub mod gregorian;
 mod month;
 pub mod ordinal;
@@ -17,8 +18,9 @@ mod place;
 mod row;
 mod rule;
 
+// `standard` carries its cutover, as the days after 1582-10-15.
 pub enum Calendar {
-    Standard,
+    Standard(u32),
     ProlepticGregorian,
     Julian,
     NoLeap,
@@ -50,7 +52,7 @@ pub enum DayAnswer {
 pub fn epoch_day(c: Calendar) -> u64
     ensures { λ n. ⌜ n ≡ epochDay c ⌝ }
 {
-    let r = row::row_of(c);
+    let r = row::parts_of(c);
     let late = r.late;
     rule::year_start(late, 11970)
 }
@@ -69,7 +71,7 @@ pub fn first_year(zero: bool) -> u64
 pub fn first_day(c: Calendar) -> u64
     ensures { λ n. ⌜ n ≡ firstDay c ⌝ }
 {
-    let r = row::row_of(c);
+    let r = row::parts_of(c);
     let early = r.early;
     rule::year_start(early, first_year(r.zero)) - row::lag_of(c)
 }
@@ -78,7 +80,7 @@ pub fn first_day(c: Calendar) -> u64
 pub fn end_day(c: Calendar) -> u64
     ensures { λ n. ⌜ n ≡ endDay c ⌝ }
 {
-    let r = row::row_of(c);
+    let r = row::parts_of(c);
     let late = r.late;
     rule::year_start(late, 20000)
 }
@@ -137,7 +139,7 @@ pub fn date_of_day(c: Calendar, n: i64) -> DateAnswer
 pub fn has_year_zero(c: Calendar) -> bool
     ensures { λ r. ⌜ r ≡ hasYearZero c ⌝ }
 {
-    let r = row::row_of(c);
+    let r = row::parts_of(c);
     r.zero
 }
 

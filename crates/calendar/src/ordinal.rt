@@ -1,10 +1,12 @@
 // From a date of year y, counted from -10000, to its day.
 ghost use mathlib.Core.Path.{_≡_};
-ghost use mathlib.Core.Bool.{true};
-ghost use Prim.Native.Nat.{_<_, _^_};
+ghost use mathlib.Core.Bool.{true, _&&_};
+ghost use Prim.Native.Nat.{_-_, _<_, _≤_, _^_};
+ghost use lib.Dec.{leb, ltb};
+ghost use Rattle.calendar.specs.Plain.{monthDays};
 ghost use Rattle.calendar.specs.Calendar.{hasYearZero, exists, dropped, date, dateOf};
 ghost use Rattle.calendar.specs.Answers.{isPossible};
-ghost use Rattle.calendar.specs.Closed.{yearAt, beforePlace, counts, isEarly, inGap, ruleAt, lagAt};
+ghost use Rattle.calendar.specs.Closed.{kindAt, yearAt, beforePlace, counts, mixed, nearCutover, isEarly};
 use crate::Calendar;
 use crate::month;
 use crate::place;
@@ -30,49 +32,67 @@ fn is_before(y: u64, month: u32, day: u32, p: Place) -> bool
     return day as u64 <= p.i;
 }
 
-// Whether a date belongs to the early part of a mixed calendar.
-fn is_early(c: Calendar, y: u64, month: u32, day: u32) -> bool
-    ensures { λ r. ⌜ r ≡ isEarly (counts c) y month day ⌝ }
+// Whether a date comes before the first day of the late part, as it is written.
+fn is_before_cutover(c: Calendar, y: u64, month: u32, day: u32) -> bool
+    ensures { λ r. ⌜ r ≡ beforePlace y month day (counts c .from) ⌝ }
+{
+    is_before(y, month, day, row::from_of(c))
+}
+
+// Whether a mixed calendar may have its cutover in year y. In every other year the part of a date is known by the year.
+fn is_near(c: Calendar, y: u64) -> bool
+    ensures { λ r. ⌜ r ≡ nearCutover c y ⌝ }
 {
     if !row::is_mixed(c) {
         return false;
     }
-    let r = row::row_of(c);
-    let from = r.from;
-    return is_before(y, month, day, from);
-}
-
-// Whether a date lies after the last day kept and before the first of the late part, as it is written.
-fn is_in_gap(c: Calendar, y: u64, month: u32, day: u32) -> bool
-    ensures { λ r. ⌜ r ≡ inGap (counts c) y month day ⌝ }
-{
-    if !is_early(c, y, month, day) {
+    if y < 11582 {
         return false;
     }
-    let r = row::row_of(c);
-    let until = r.until;
-    return !is_before(y, month, day, until);
+    return y <= row::last_near(c);
 }
 
-// The rule of the part that a date belongs to.
-fn rule_at(c: Calendar, y: u64, month: u32, day: u32) -> Rule
-    ensures { λ r. ⌜ r ≡ ruleAt (counts c) y month day ⌝ }
+// Whether the dates of year y, which is not near, belong to the early part.
+fn is_early_year(c: Calendar, y: u64) -> bool
+    ensures { λ r. ⌜ r ≡ (mixed (counts c) && ltb y 11582) ⌝ }
 {
-    let r = row::row_of(c);
-    if is_early(c, y, month, day) {
-        return r.early;
+    if !row::is_mixed(c) {
+        return false;
     }
-    return r.late;
+    return y < 11582;
 }
 
-// The days by which the late rule lags behind that rule.
-fn lag_at(c: Calendar, y: u64, month: u32, day: u32) -> u64
-    ensures { λ r. ⌜ r ≡ lagAt (counts c) y month day ⌝ }
+// Whether a date belongs to the early part.
+fn is_early(c: Calendar, y: u64, month: u32, day: u32) -> bool
+    ensures { λ r. ⌜ r ≡ isEarly (counts c) y month day ⌝ }
+{
+    if is_near(c, y) {
+        return is_before_cutover(c, y, month, day);
+    }
+    return is_early_year(c, y);
+}
+
+// Whether a month of year y has the day, by a rule of years.
+fn is_in_month(r: Rule, y: u64, month: u32, day: u32) -> bool
+    requires { ⌜ (1 ≤ month) × (month ≤ 12) ⌝ }
+    ensures { λ b. ⌜ b ≡ leb day (monthDays (kindAt r y) (month - 1)) ⌝ }
+{
+    let m = (month - 1) as usize;
+    return day as u64 <= month::month_length(rule::kind_of_year(r, y), m);
+}
+
+// Whether a date of a mixed calendar exists, by its own cutover: for the years that are near, and for dates that may be dropped.
+fn exists_near(c: Calendar, y: u64, month: u32, day: u32) -> bool
+    requires { ⌜ (mixed (counts c) ≡ true) × ((1 ≤ month) × ((month ≤ 12) × (1 ≤ day))) ⌝ }
+    ensures { λ r. ⌜ r ≡ exists c (date (yearAt (hasYearZero c) y) month day) ⌝ }
 {
     if is_early(c, y, month, day) {
-        return row::lag_of(c);
+        if !is_before(y, month, day, row::until_of(c)) {
+            return false;
+        }
+        return is_in_month(row::rule_of(c, true), y, month, day);
     }
-    return 0;
+    return is_in_month(row::rule_of(c, false), y, month, day);
 }
 
 // Whether a date exists.
@@ -88,12 +108,13 @@ pub fn exists_in_year(c: Calendar, y: u64, month: u32, day: u32) -> bool
     if day < 1 {
         return false;
     }
-    if is_in_gap(c, y, month, day) {
-        return false;
+    if is_near(c, y) {
+        return exists_near(c, y, month, day);
     }
-    let m = (month - 1) as usize;
-    let k = rule::kind_of_year(rule_at(c, y, month, day), y);
-    return day as u64 <= month::month_length(k, m);
+    if is_early_year(c, y) {
+        return is_in_month(row::rule_of(c, true), y, month, day);
+    }
+    return is_in_month(row::rule_of(c, false), y, month, day);
 }
 
 // Whether some date has this month, and some date this day.
@@ -112,22 +133,24 @@ pub fn is_possible(month: u32, day: u32) -> bool
     return day <= 31;
 }
 
-// Whether a date, whose month and day are possible, is one that the calendar dropped.
+// Whether a date, whose month and day are possible, is one that the calendar dropped: the early rule has it, before the cutover, and it does not
+// exist.
 pub fn is_dropped(c: Calendar, y: u64, month: u32, day: u32) -> bool
     requires { ⌜ isPossible month day ≡ true ⌝ }
     ensures { λ r. ⌜ r ≡ dropped c (date (yearAt (hasYearZero c) y) month day) ⌝ }
 {
-    if !is_in_gap(c, y, month, day) {
+    if !is_early(c, y, month, day) {
         return false;
     }
-    let m = (month - 1) as usize;
-    let k = rule::kind_of_year(rule_at(c, y, month, day), y);
-    return day as u64 <= month::month_length(k, m);
+    if exists_near(c, y, month, day) {
+        return false;
+    }
+    return is_in_month(row::rule_of(c, true), y, month, day);
 }
 
-// The day number of a date that exists.
-pub fn day_in_year(c: Calendar, y: u64, month: u32, day: u32) -> i64
-    requires { ⌜ (y < 2 ^ 31) × (exists c (date (yearAt (hasYearZero c) y) month day) ≡ true) ⌝ }
+// The day number of a date that exists, of the early or of the late part.
+fn day_by_part(c: Calendar, y: u64, month: u32, day: u32, early: bool) -> i64
+    requires { ⌜ (y < 2 ^ 31) × ((exists c (date (yearAt (hasYearZero c) y) month day) ≡ true) × (early ≡ isEarly (counts c) y month day)) ⌝ }
     ensures { λ n. ⌜ dateOf c n ≡ date (yearAt (hasYearZero c) y) month day ⌝ }
 {
     let p = Place {
@@ -135,6 +158,14 @@ pub fn day_in_year(c: Calendar, y: u64, month: u32, day: u32) -> i64
         m: (month - 1) as usize,
         i: (day - 1) as u64,
     };
-    let n = place::days_before(rule_at(c, y, month, day), p);
-    signed::unbiased(n + crate::origin(c) - lag_at(c, y, month, day))
+    let n = place::days_before(row::rule_of(c, early), p);
+    signed::unbiased(n + crate::origin(c) - row::lag_in(c, early))
+}
+
+// The day number of a date that exists.
+pub fn day_in_year(c: Calendar, y: u64, month: u32, day: u32) -> i64
+    requires { ⌜ (y < 2 ^ 31) × (exists c (date (yearAt (hasYearZero c) y) month day) ≡ true) ⌝ }
+    ensures { λ n. ⌜ dateOf c n ≡ date (yearAt (hasYearZero c) y) month day ⌝ }
+{
+    day_by_part(c, y, month, day, is_early(c, y, month, day))
 }

@@ -59,7 +59,7 @@ pub fn year_start(r: Rule, y: u64) -> u64
 }
 
 // Day n of the Gregorian rule by the Julian one, which has a day more in three of four century years.
-fn julian_count(n: u64) -> u64
+pub fn julian_count(n: u64) -> u64
     requires { ⌜ n < 2 ^ 31 ⌝ }
     ensures { λ j. ⌜ j ≡ julianCount n ⌝ }
 {

@@ -24,7 +24,7 @@ pub named-back : (o : Option Calendar) (r : CalendarNamed) → r ≡ calendarNam
 named-back none r e = ap calendarIn (sym e)
 named-back (some c) r e = ap calendarIn (sym e)
 
-pub name-empty : (w : List ℕ) → length w ≡ 0 → calendarOf w ≡ some Calendar.Standard
+pub name-empty : (w : List ℕ) → length w ≡ 0 → calendarOf w ≡ some (Calendar.Standard 0)
 unfolding calendarOf
 name-empty [] h = refl
 name-empty (b ∷ s) h = absurd (omega arith)
@@ -41,5 +41,5 @@ names-headed = refl
 
 -- the names of more than eight bytes
 pub name-long : (w : List ℕ) (a b c : Bool) → 8 < length w → same w (bytes "gregorian") ≡ a → same w (bytes "proleptic_gregorian") ≡ b → same w (bytes "uniform30day") ≡ c
-    → lookup calendarNames w ≡ cond a (some Calendar.Standard) (cond b (some Calendar.ProlepticGregorian) (cond c (some Calendar.Day360) none))
+    → lookup calendarNames w ≡ cond a (some (Calendar.Standard 0)) (cond b (some Calendar.ProlepticGregorian) (cond c (some Calendar.Day360) none))
 name-long w a b c h p q r = lookup-long calendarNames w h ∙ rw (p, q, r, or-false a, or-false b, or-false c)

@@ -10,7 +10,7 @@ use Rattle.calendar_name.specs.declared.CalendarNamed.{CalendarNamed}
 
 abbrev pub calendarNames : List (Row Calendar)
 calendarNames =
-    row (bytes "standard" ∷ bytes "gregorian" ∷ []) Standard
+    row (bytes "standard" ∷ bytes "gregorian" ∷ []) (Standard 0)
     ∷ row (bytes "proleptic_gregorian" ∷ bytes "ISO8601" ∷ []) ProlepticGregorian
     ∷ row (bytes "julian" ∷ []) Julian
     ∷ row (bytes "noleap" ∷ bytes "no_leap" ∷ bytes "365_day" ∷ []) NoLeap
@@ -18,9 +18,9 @@ calendarNames =
     ∷ row (bytes "uniform30day" ∷ bytes "360_day" ∷ []) Day360
     ∷ []
 
--- the calendar of a name; the empty name is `standard`
+-- the calendar of a name; the empty name is `standard`. Its cutover is that of 1582 until another is given (crate `cutover`)
 unfoldable pub calendarOf : List ℕ → Option Calendar
-calendarOf [] = some Standard
+calendarOf [] = some (Standard 0)
 calendarOf (b ∷ s) = lookup calendarNames (b ∷ s)
 
 abbrev pub calendarNamed : Option Calendar → CalendarNamed

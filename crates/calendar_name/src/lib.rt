@@ -8,7 +8,7 @@ use calendar::Calendar;
 use grammar::same_bytes;
 use word_table::packed_of;
 
-// What a name names.
+// What a name names; `standard` with the cutover of 1582.
 pub enum CalendarNamed {
     Is(Calendar),
     Unknown,
@@ -20,7 +20,7 @@ fn long_name(name: &[u8]) -> CalendarNamed
     ensures { λ r. ⌜ r ≡ calendarNamed (lookup calendarNames (now (name .entry))) ⌝ }
 {
     if same_bytes(name, b"gregorian") {
-        return CalendarNamed::Is(Calendar::Standard);
+        return CalendarNamed::Is(Calendar::Standard(0));
     }
     if same_bytes(name, b"proleptic_gregorian") {
         return CalendarNamed::Is(Calendar::ProlepticGregorian);
@@ -42,7 +42,7 @@ fn short_name(name: &[u8]) -> CalendarNamed
     let w = packed_of(name);
     match w {
         // standard
-        0x7374616e64617264 => CalendarNamed::Is(Calendar::Standard),
+        0x7374616e64617264 => CalendarNamed::Is(Calendar::Standard(0)),
         // ISO8601
         0x49534f38363031 => CalendarNamed::Is(Calendar::ProlepticGregorian),
         // julian
@@ -63,7 +63,7 @@ pub fn calendar_of(name: &[u8]) -> CalendarNamed
 {
     let n = name.len();
     if n == 0 {
-        return CalendarNamed::Is(Calendar::Standard);
+        return CalendarNamed::Is(Calendar::Standard(0));
     }
     if 8 < n {
         return long_name(name);

@@ -43,8 +43,12 @@ use Rattle.calendar_name.specs.Names.{calendarOf}
 use Rattle.units_text.specs.UnitsRule.{units}
 use Rattle.units_text.specs.declared.Units.{Units}
 use Rattle.written_instant.specs.Instants.{localFields, isZone, ahead, lessZone, writtenInstant}
-use Rattle.named_text.specs.declared.TextCalendar.{TextCalendar}
-use Rattle.named_text.specs.Texts.{textCalendar, inCalendar, readText}
+use Rattle.calendar.specs.Cutover.{firstCutover}
+use Rattle.calendar.specs.declared.Calendar.the-variants.{Standard, ProlepticGregorian, Julian, NoLeap, AllLeap, Day360}
+use Rattle.cutover.specs.Calendars.{withCutover}
+use Rattle.cutover.specs.declared.CalendarAnswer.{CalendarAnswer}
+use Rattle.cutover.proofs.Theorems.{first-carried}
+use Rattle.named_text.specs.Texts.{tooLong, ofName, textCalendar, inCalendar, readText}
 use Rattle.cases.specs.Cases.{textAnswer, readingAnswer, axisAnswer, Case, answerOf}
 use Rattle.cases.proofs.Known.{Known, itself, applied, through, tested, chosen}
 use Rattle.cases.proofs.Days.{dateOfKnown, inYearsKnown, dateAnswerKnown, dayWithKnown}
@@ -82,15 +86,31 @@ module _ (c : Calendar) where
   unfolding writtenInstantKnown
   axisOfKnown u = applied (axisAt c u) (writtenInstantKnown (u .reference))
 
-unfoldable pub inCalendarKnown : (k : TextCalendar) (u : Option Units) → Known (inCalendar AxisAnswer.Refused axisOf k u)
+unfoldable pub inCalendarKnown : (k : CalendarAnswer) (u : Option Units) → Known (inCalendar AxisAnswer.Refused axisOf k u)
 unfolding axisOfKnown
-inCalendarKnown (TextCalendar.Refused r) u = itself (AxisAnswer.Refused r)
-inCalendarKnown (TextCalendar.Is c) none = itself (AxisAnswer.Refused Refusal.IllFormed)
-inCalendarKnown (TextCalendar.Is c) (some u) = axisOfKnown c u
+inCalendarKnown (CalendarAnswer.Refused r) u = itself (AxisAnswer.Refused r)
+inCalendarKnown (CalendarAnswer.Is c) none = itself (AxisAnswer.Refused Refusal.IllFormed)
+inCalendarKnown (CalendarAnswer.Is c) (some u) = axisOfKnown c u
 
-unfoldable pub readUnitsKnown : (name text : List ℕ) → Known (readUnits name text)
-unfolding readUnits readText textCalendar inCalendarKnown calendarOf read withinClass inside
-readUnitsKnown name text = inCalendarKnown (textCalendar name text) (read units text)
+-- the calendar of a name with the cutover of 1582
+unfoldable pub ofNameKnown : (o : Option Calendar) → Known (ofName o firstCutover)
+unfolding withCutover
+ofNameKnown none = itself (CalendarAnswer.Refused Refusal.UnknownCalendar)
+ofNameKnown (some (Standard k)) = record { value = CalendarAnswer.Is (Standard 0); is = first-carried }
+ofNameKnown (some ProlepticGregorian) = itself (CalendarAnswer.Is ProlepticGregorian)
+ofNameKnown (some Julian) = itself (CalendarAnswer.Is Julian)
+ofNameKnown (some NoLeap) = itself (CalendarAnswer.Is NoLeap)
+ofNameKnown (some AllLeap) = itself (CalendarAnswer.Is AllLeap)
+ofNameKnown (some Day360) = itself (CalendarAnswer.Is Day360)
+
+unfoldable pub textKnown : (name text : List ℕ) → Known (textCalendar name firstCutover text)
+unfolding textCalendar ofNameKnown calendarOf
+textKnown name text =
+    tested (λ (b : Bool). cond b (CalendarAnswer.Refused Refusal.TextTooLong) (ofName (calendarOf name) firstCutover)) (itself (tooLong text)) (λ h. itself (CalendarAnswer.Refused Refusal.TextTooLong)) (λ h. ofNameKnown (calendarOf name))
+
+unfoldable pub readUnitsKnown : (name text : List ℕ) → Known (readUnits name firstCutover text)
+unfolding readUnits readText textKnown inCalendarKnown read withinClass inside
+readUnitsKnown name text = through (λ (q : CalendarAnswer). inCalendar AxisAnswer.Refused axisOf q (read units text)) (λ (q : CalendarAnswer). inCalendarKnown q (read units text)) (textKnown name text)
 
 -- ---- the reading of an offset
 module _ (c : Calendar) where

@@ -11,7 +11,8 @@ use Rattle.signed.proofs.Tests.{and-parts}
 use Rattle.signed.proofs.Differences.{lift-sub}
 use Rattle.calendar.specs.Plain.{hasDay, kind, monthDays}
 use Rattle.calendar.specs.Order.{earlier}
-use Rattle.calendar.specs.Calendar.{date, dateOf, exists, existsBy, dropped, droppedBy, hasYearZero, inYears}
+use Rattle.calendar.specs.Cutover.{cutoverAfter, lastKeptAfter}
+use Rattle.calendar.specs.Calendar.{times, date, dateOf, exists, existsBy, dropped, droppedBy, hasYearZero, inYears}
 use Rattle.calendar.specs.Answers.{dateAnswer, faultWith, refusalWith, dayWith, dayNumber}
 use Rattle.calendar.specs.Closed.{beforePlace, count, counts, cutoverDay, dayPlace, epochDay, kindAt, label, lag, lagAt, monthStart, rowEnd, rowEpoch, rowStart, ruleAt, yearAt, yearStart}
 use Rattle.calendar.specs.declared.Calendar.{Calendar}
@@ -31,12 +32,12 @@ use Rattle.cases.proofs.Known.{Known, itself, equal, applied, chosen}
 module _ (c : Calendar) where
   -- the date of day n, counted from place 0 0 0 of the late rule
   unfoldable pub countedKnown : (n : ℕ) → Known (dateOf c (subℕ n (epochDay c)))
-  unfolding lag cutoverDay count kindAt yearStart monthStart monthDays
+  unfolding cutoverAfter lastKeptAfter times lag cutoverDay count kindAt yearStart monthStart monthDays
   countedKnown n = record { value = label (hasYearZero c) (placeByRule c n); is = date-by-place c n }
 
   -- the date of a day number of the range
   unfoldable pub dateOfKnown : (z : ℤ) → inYears (dateOf c z .year) ≡ true → Known (dateOf c z)
-  unfolding countedKnown rowEpoch
+  unfolding cutoverAfter lastKeptAfter times countedKnown rowEpoch
   dateOfKnown z h =
       let b = epochDay c in
       let k = inside-of c z h in
@@ -44,7 +45,7 @@ module _ (c : Calendar) where
 
   -- whether a day number lies in the range
   unfoldable pub inYearsKnown : (z : ℤ) → Known (inYears (dateOf c z .year))
-  unfolding rowStart rowEnd rowEpoch lag cutoverDay count kindAt yearStart monthStart monthDays
+  unfolding cutoverAfter lastKeptAfter times rowStart rowEnd rowEpoch lag cutoverDay count kindAt yearStart monthStart monthDays
   inYearsKnown z = record { value = leZ (lowDay c) z && leZ z (highDay c); is = range c z }
 
   -- the date of a day number, or its refusal
@@ -67,7 +68,7 @@ count-at false n = by-year (λ (y : ℤ). yearCount false y ≡ n) n (λ h. omeg
 
 module _ (c : Calendar) (x : Date) where
   unfoldable pub dayNumberKnown : inYears (x .year) ≡ true → exists c x ≡ true → Known (dayNumber c x)
-  unfolding yearCount count beforePlace lag cutoverDay rowEpoch kindAt yearStart monthStart monthDays
+  unfolding cutoverAfter lastKeptAfter times yearCount count beforePlace lag cutoverDay rowEpoch kindAt yearStart monthStart monthDays
   dayNumberKnown h g =
       let z = hasYearZero c in
       let y = yearCount z (x .year) in
@@ -79,7 +80,7 @@ module _ (c : Calendar) (x : Date) where
 
   -- the day number of a date with what stands beside it, or its refusal
   unfoldable pub dayWithKnown : (rest : Bool) → Known (dayWith rest c x)
-  unfolding dayWith refusalWith faultWith exists existsBy dropped droppedBy earlier hasDay kind monthDays dayNumberKnown
+  unfolding cutoverAfter lastKeptAfter times dayWith refusalWith faultWith exists existsBy dropped droppedBy earlier hasDay kind monthDays dayNumberKnown
   dayWithKnown rest =
       chosen (itself (rest && (inYears (x .year) && exists c x)))
       (λ h. let w = and-parts (inYears (x .year)) (exists c x) (and-parts rest (inYears (x .year) && exists c x) h .1) in applied DayAnswer.Is (dayNumberKnown (w .0) (w .1)))

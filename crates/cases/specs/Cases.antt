@@ -7,6 +7,7 @@ use lib.IntN.{pos, negsuc}
 use lib.Ieee.{Float, fin}
 use Rattle.refusal.specs.Number.{numberOf}
 use Rattle.calendar.specs.declared.Calendar.{Calendar}
+use Rattle.calendar.specs.Cutover.{firstCutover}
 use Rattle.instant.specs.Instant.{fieldsAnswer}
 use Rattle.instant.specs.declared.FieldsAnswer.{FieldsAnswer}
 use Rattle.axis_types.specs.declared.Reading.{Reading}
@@ -47,9 +48,9 @@ pub record Case : Type 0 where
   pub offset : Offset
   pub expected : Answer
 
--- the units text makes an axis in the calendar, the offset is read on it, and the fields of the instant are written
+-- the units text makes an axis in the calendar, with the cutover of 1582, the offset is read on it, and the fields of the instant are written
 unfoldable pub answerOf : Case → Answer
-answerOf k = axisAnswer (readUnits (k .calendar) (k .units)) (k .offset)
+answerOf k = axisAnswer (readUnits (k .calendar) firstCutover (k .units)) (k .offset)
 
 -- a row with a whole offset, which is exact
 abbrev pub wholeCase : String → String → ℕ → String → Case

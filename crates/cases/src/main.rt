@@ -1,6 +1,6 @@
-// Runs the cases by hand of document 01, and some about the years of `julian` before year 1, about dates that are refused and about days
-// that are moved back, over the library's calls. A line for each case: the calendar, the units text, the offset that is read or the date that
-// is written, and the answer. The stored output is written by hand from the documents. The cases of the first two groups are proved over the definitions too
+// Runs the cases by hand of document 01, and some about the years of `julian` before year 1, about dates that are refused, about days that
+// are moved back and about cutovers, over the library's calls. A line for each case: the calendar, with its cutover where that is not of 1582, the
+// units text, the offset that is read or the date that is written, and the answer. The stored output is written by hand from the documents. The cases of the first two groups are proved over the definitions too
 // (specs/Cases.antt).
 use axis_text::AxisAnswer;
 use axis_types::Axis;
@@ -8,6 +8,7 @@ use axis_types::Offset;
 use axis_types::OffsetAnswer;
 use axis_types::Reading;
 use calendar::Calendar;
+use calendar::Date;
 use instant::InstantAnswer;
 use iso_form::LengthAnswer;
 use refusal::Refusal;
@@ -80,19 +81,23 @@ fn print_reading(axis: Axis, offset: Offset) {
     }
 }
 
-fn print_read(name: &[u8], units: &[u8], offset: Offset) {
-    match axis_text::read_units(name, units) {
+fn print_read(name: &[u8], x: Date, units: &[u8], offset: Offset) {
+    match axis_text::read_units(name, x, units) {
         AxisAnswer::Refused(r) => print_refusal(r),
         AxisAnswer::Is(axis) => print_reading(axis, offset),
     }
 }
 
-fn read_whole(name: &[u8], units: &[u8], n: i64) {
-    print_part(name);
+fn read_whole_with(name: &[u8], x: Date, units: &[u8], n: i64) {
     print_part(units);
     print_signed(n);
     io::write_all(1, b" | ");
-    print_read(name, units, Offset::Whole(n));
+    print_read(name, x, units, Offset::Whole(n));
+}
+
+fn read_whole(name: &[u8], units: &[u8], n: i64) {
+    print_part(name);
+    read_whole_with(name, cutover::first_cutover(), units, n);
 }
 
 // The double that is the quotient of two numbers.
@@ -103,7 +108,12 @@ fn read_double(name: &[u8], units: &[u8], a: u32, b: u32) {
     io::write_all(1, b"/");
     io::print_decimal(1, b as u64);
     io::write_all(1, b" | ");
-    print_read(name, units, Offset::Double(a as f64 / b as f64));
+    print_read(
+        name,
+        cutover::first_cutover(),
+        units,
+        Offset::Double(a as f64 / b as f64),
+    );
 }
 
 // ---- a date that is written
@@ -118,21 +128,25 @@ fn print_written(axis: Axis, t: i64) {
     }
 }
 
-fn print_written_date(axis: Axis, name: &[u8], date: &[u8]) {
-    match iso_text::read_iso(name, date) {
+fn print_written_date(axis: Axis, name: &[u8], x: Date, date: &[u8]) {
+    match iso_text::read_iso(name, x, date) {
         InstantAnswer::Refused(r) => print_refusal(r),
         InstantAnswer::Is(t) => print_written(axis, t),
     }
 }
 
-fn write_date(name: &[u8], units: &[u8], date: &[u8]) {
-    print_part(name);
+fn write_date_with(name: &[u8], x: Date, units: &[u8], date: &[u8]) {
     print_part(units);
     print_part(date);
-    match axis_text::read_units(name, units) {
+    match axis_text::read_units(name, x, units) {
         AxisAnswer::Refused(r) => print_refusal(r),
-        AxisAnswer::Is(axis) => print_written_date(axis, name, date),
+        AxisAnswer::Is(axis) => print_written_date(axis, name, x, date),
     }
+}
+
+fn write_date(name: &[u8], units: &[u8], date: &[u8]) {
+    print_part(name);
+    write_date_with(name, cutover::first_cutover(), units, date);
 }
 
 // ---- the cases
@@ -254,6 +268,127 @@ fn days_not_moved() {
     read_whole(b"standard", b"calendar years since 1600-02-29", 8400);
 }
 
+// ---- cutovers (document 02, CR 8)
+
+fn written(year: i64, month: u32, day: u32) -> Date {
+    Date { year, month, day }
+}
+
+// One of `standard`, and the name for it that is printed.
+fn read_after(label: &[u8], x: Date, units: &[u8], n: i64) {
+    print_part(label);
+    read_whole_with(b"standard", x, units, n);
+}
+
+fn write_after(label: &[u8], x: Date, units: &[u8], date: &[u8]) {
+    print_part(label);
+    write_date_with(b"standard", x, units, date);
+}
+
+// The English cutover: 1752-09-02, then 1752-09-14.
+fn english_cutover() {
+    let label = b"standard from 1752-09-14";
+    let x = written(1752, 9, 14);
+    read_after(label, x, b"days since 1752-09-02", 1);
+    read_after(label, x, b"days since 1582-10-04", 1);
+    read_after(label, x, b"days since 1700-02-28", 1);
+    read_after(label, x, b"days since 1752-02-28", 1);
+    write_after(label, x, b"days since 1752-09-14", b"1752-09-02");
+    write_after(label, x, b"days since 1752-09-14", b"1752-09-03");
+    write_after(label, x, b"days since 1752-09-14", b"1752-09-13");
+    write_after(label, x, b"days since 1752-09-14", b"1752-09-31");
+    read_after(label, x, b"calendar months since 1752-08-13", 1);
+    read_after(label, x, b"calendar years since 1751-09-14", 1);
+    read_after(label, x, b"calendar months since 1752-01-31", 1);
+}
+
+// A cutover at the first of a month: what is dropped is the end of the month before.
+fn cutover_at_a_first() {
+    let label = b"standard from 1752-10-01";
+    let x = written(1752, 10, 1);
+    read_after(label, x, b"days since 1752-09-19", 1);
+    write_after(label, x, b"days since 1752-10-01", b"1752-09-30");
+    write_after(label, x, b"days since 1752-10-01", b"1752-09-31");
+    read_after(label, x, b"calendar months since 1752-08-31", 1);
+}
+
+// The 29th of February 1700 is a Julian date and no Gregorian one.
+fn cutovers_of_1700() {
+    let march = written(1700, 3, 1);
+    let february = written(1700, 2, 28);
+    write_after(
+        b"standard from 1700-03-01",
+        march,
+        b"days since 1700-03-01",
+        b"1700-02-29",
+    );
+    write_after(
+        b"standard from 1700-03-01",
+        march,
+        b"days since 1700-03-01",
+        b"1700-02-30",
+    );
+    write_after(
+        b"standard from 1700-02-28",
+        february,
+        b"days since 1700-03-01",
+        b"1700-02-29",
+    );
+    write_after(
+        b"standard from 1700-02-28",
+        february,
+        b"days since 1700-03-01",
+        b"1700-02-17",
+    );
+}
+
+fn cutovers_of_1800_and_1900() {
+    let eighteen = written(1800, 3, 1);
+    let nineteen = written(1900, 3, 1);
+    read_after(
+        b"standard from 1800-03-01",
+        eighteen,
+        b"days since 1800-02-17",
+        1,
+    );
+    write_after(
+        b"standard from 1800-03-01",
+        eighteen,
+        b"days since 1800-03-01",
+        b"1800-02-29",
+    );
+    read_after(
+        b"standard from 1900-03-01",
+        nineteen,
+        b"days since 1900-02-16",
+        1,
+    );
+    write_after(
+        b"standard from 1900-03-01",
+        nineteen,
+        b"days since 1900-03-01",
+        b"1900-02-29",
+    );
+}
+
+// The Russian cutover would drop the first of February; only `standard` looks.
+fn refused_cutovers() {
+    read_after(
+        b"standard from 1918-02-14",
+        written(1918, 2, 14),
+        b"days since 1918-01-31",
+        1,
+    );
+    read_after(
+        b"standard from 1582-10-14",
+        written(1582, 10, 14),
+        b"ss since 1970",
+        1,
+    );
+    print_part(b"julian from 1918-02-14");
+    read_whole_with(b"julian", written(1918, 2, 14), b"days since 1918-01-31", 1);
+}
+
 // ---- all of them
 
 fn main() {
@@ -271,4 +406,9 @@ fn main() {
     moved_days();
     days_moved_to_the_cutover();
     days_not_moved();
+    english_cutover();
+    cutover_at_a_first();
+    cutovers_of_1700();
+    cutovers_of_1800_and_1900();
+    refused_cutovers();
 }

@@ -3,9 +3,14 @@ use mathlib.Core.Path.{_≡_, refl, sym, ap, _∙_}
 use Prim.Native.Nat.{ℕ, zero, suc}
 use native.Mathlib.Omega.{arith}
 use Rattle.refusal.specs.declared.Refusal.{Refusal}
-use Rattle.refusal.specs.declared.Refusal.the-variants.{UnknownCalendar, IllFormed}
+use Rattle.refusal.specs.declared.Refusal.the-variants.{UnknownCalendar, IllFormed, CutoverNotAllowed}
 use Rattle.calendar.specs.declared.Calendar.{Calendar}
-use Rattle.codes.specs.Codes.{codedCalendar, codedPeriod, codedMode, axisWith, codedAxis}
+use Rattle.codes.specs.Codes.{codedCalendar, codedPeriod, codedMode, axisIn, axisWith, codedAxis}
+use Rattle.cutover.specs.Calendars.{withCutover}
+use Rattle.cutover.specs.declared.CalendarAnswer.{CalendarAnswer}
+use Rattle.cutover.proofs.Theorems.{only-16}
+use Rattle.axis_types.specs.declared.Period.{Period}
+use Rattle.axis_types.specs.declared.Mode.{Mode}
 use Rattle.codes.specs.declared.CodedCalendar.{CodedCalendar}
 use Rattle.codes.specs.declared.CodedPeriod.{CodedPeriod}
 use Rattle.codes.specs.declared.CodedMode.{CodedMode}
@@ -37,17 +42,27 @@ unknown-mode zero a b = absurd (a refl)
 unknown-mode (suc zero) a b = absurd (b refl)
 unknown-mode (suc (suc n)) a b = refl
 
--- an axis is refused for its calendar, and else for its period or its mode
-module _ (a : UppinaloAxis) (r : Refusal) where
-  pub refused-calendar : codedAxis a ≡ CodedAxis.Refused r → codedCalendar (a .calendar) ≡ CodedCalendar.Unknown → r ≡ UnknownCalendar
+-- an axis is refused for its calendar, then for its period or its mode, then for its cutover
+module _ (a : UppinaloAxis) (r : Refusal) (e : codedAxis a ≡ CodedAxis.Refused r) where
+  -- where it is known what the codes name
+  as-named : (c : CodedCalendar) (p : CodedPeriod) (m : CodedMode) → codedCalendar (a .calendar) ≡ c → codedPeriod (a .period) ≡ p → codedMode (a .mode) ≡ m → axisWith c p m a ≡ CodedAxis.Refused r
   unfolding codedAxis
-  refused-calendar e f = let k = ap (λ (c : CodedCalendar). axisWith c (codedPeriod (a .period)) (codedMode (a .mode)) a) (sym f) ∙ e in cc
+  as-named c p m f g h = (λ i. axisWith (sym f i) (sym g i) (sym h i) a) ∙ e
 
-  pub refused-rest : (c : Calendar) → codedAxis a ≡ CodedAxis.Refused r → codedCalendar (a .calendar) ≡ CodedCalendar.Is c → r ≡ IllFormed
-  unfolding codedAxis
-  refused-rest c e f = go (codedPeriod (a .period)) (codedMode (a .mode)) (ap (λ (k : CodedCalendar). axisWith k (codedPeriod (a .period)) (codedMode (a .mode)) a) (sym f) ∙ e)
-    where
-      go : (p : CodedPeriod) (m : CodedMode) → axisWith (CodedCalendar.Is c) p m a ≡ CodedAxis.Refused r → r ≡ IllFormed
-      go CodedPeriod.Unknown m h = cc
-      go (CodedPeriod.Is p) CodedMode.Unknown h = cc
-      go (CodedPeriod.Is p) (CodedMode.Is m) h = absurd (let z : _≡_ {A = ℕ} 0 1 = cc in omega arith)
+  pub refused-calendar : codedCalendar (a .calendar) ≡ CodedCalendar.Unknown → r ≡ UnknownCalendar
+  refused-calendar f = let k = as-named CodedCalendar.Unknown (codedPeriod (a .period)) (codedMode (a .mode)) f refl refl in cc
+
+  module _ (c : Calendar) (f : codedCalendar (a .calendar) ≡ CodedCalendar.Is c) where
+    pub refused-period : codedPeriod (a .period) ≡ CodedPeriod.Unknown → r ≡ IllFormed
+    refused-period g = let k = as-named (CodedCalendar.Is c) CodedPeriod.Unknown (codedMode (a .mode)) f g refl in cc
+
+    module _ (p : Period) (g : codedPeriod (a .period) ≡ CodedPeriod.Is p) where
+      pub refused-mode : codedMode (a .mode) ≡ CodedMode.Unknown → r ≡ IllFormed
+      refused-mode h = let k = as-named (CodedCalendar.Is c) (CodedPeriod.Is p) CodedMode.Unknown f g h in cc
+
+      pub refused-cutover : (m : Mode) → codedMode (a .mode) ≡ CodedMode.Is m → r ≡ CutoverNotAllowed
+      refused-cutover m h = go (withCutover c (a .cutover)) refl (as-named (CodedCalendar.Is c) (CodedPeriod.Is p) (CodedMode.Is m) f g h)
+        where
+          go : (q : CalendarAnswer) → withCutover c (a .cutover) ≡ q → axisIn q p m a ≡ CodedAxis.Refused r → r ≡ CutoverNotAllowed
+          go (CalendarAnswer.Is d) q k = absurd (let z : _≡_ {A = ℕ} 0 1 = cc in omega arith)
+          go (CalendarAnswer.Refused s) q k = only-16 c (a .cutover) r (q ∙ (let i : s ≡ r = cc in ap CalendarAnswer.Refused i))

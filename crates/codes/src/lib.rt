@@ -1,10 +1,12 @@
-// The numbers by which calendars, periods and modes cross the C boundary.
+// The numbers by which calendars, periods and modes cross the C boundary, beside the cutover, which crosses as a date.
 ghost use mathlib.Core.Path.{_≡_};
-ghost use Rattle.codes.specs.Codes.{codedCalendar, codedPeriod, codedMode, codedAxis, calendarCode, periodCode, modeCode, axisCode};
+ghost use Rattle.codes.specs.Codes.{codedCalendar, calendarGiven, codedPeriod, codedMode, codedAxis, calendarCode, periodCode, modeCode, axisCode};
 use axis_types::Axis;
 use axis_types::Mode;
 use axis_types::Period;
 use calendar::Calendar;
+use calendar::Date;
+use cutover::CalendarAnswer;
 use refusal::Refusal;
 
 #[repr(C)]
@@ -13,6 +15,7 @@ pub struct UppinaloAxis {
     pub period: u32,
     pub mode: u32,
     pub reference: i64,
+    pub cutover: Date,
 }
 
 pub enum CodedCalendar {
@@ -35,11 +38,12 @@ pub enum CodedAxis {
     Refused(Refusal),
 }
 
-pub fn calendar_of(code: u32) -> CodedCalendar
+// The calendar that a code names; `standard` with the cutover of 1582.
+fn calendar_of(code: u32) -> CodedCalendar
     ensures { λ r. ⌜ r ≡ codedCalendar code ⌝ }
 {
     if code == 0 {
-        return CodedCalendar::Is(Calendar::Standard);
+        return CodedCalendar::Is(Calendar::Standard(0));
     }
     if code == 1 {
         return CodedCalendar::Is(Calendar::ProlepticGregorian);
@@ -57,6 +61,22 @@ pub fn calendar_of(code: u32) -> CodedCalendar
         return CodedCalendar::Is(Calendar::Day360);
     }
     return CodedCalendar::Unknown;
+}
+
+// The same with a cutover; UnknownCalendar, then CutoverNotAllowed. `standard` is told by its code, so that no other calendar waits for it.
+pub fn calendar_given(code: u32, x: Date) -> CalendarAnswer
+    ensures { λ r. ⌜ r ≡ calendarGiven code x ⌝ }
+{
+    if code == 0 {
+        if cutover::is_first(x) {
+            return CalendarAnswer::Is(Calendar::Standard(0));
+        }
+        return cutover::standard_of(cutover::days_of(x));
+    }
+    match calendar_of(code) {
+        CodedCalendar::Unknown => return CalendarAnswer::Refused(Refusal::UnknownCalendar),
+        CodedCalendar::Is(c) => return CalendarAnswer::Is(c),
+    }
 }
 
 fn period_of(code: u32) -> CodedPeriod
@@ -101,11 +121,11 @@ fn mode_of(code: u32) -> CodedMode
     return CodedMode::Unknown;
 }
 
-// The axis that the codes name; UnknownCalendar, then IllFormed for the period or the mode.
+// The axis that the codes name with the cutover; UnknownCalendar, then IllFormed for the period or the mode, then CutoverNotAllowed.
 pub fn axis_of(a: UppinaloAxis) -> CodedAxis
     ensures { λ r. ⌜ r ≡ codedAxis a ⌝ }
 {
-    let CodedCalendar::Is(calendar) = calendar_of(a.calendar) else {
+    let CodedCalendar::Is(_) = calendar_of(a.calendar) else {
         return CodedAxis::Refused(Refusal::UnknownCalendar);
     };
     let CodedPeriod::Is(period) = period_of(a.period) else {
@@ -114,19 +134,23 @@ pub fn axis_of(a: UppinaloAxis) -> CodedAxis
     let CodedMode::Is(mode) = mode_of(a.mode) else {
         return CodedAxis::Refused(Refusal::IllFormed);
     };
-    return CodedAxis::Is(Axis {
-        calendar,
-        period,
-        mode,
-        reference: a.reference,
-    });
+    let x = a.cutover;
+    match calendar_given(a.calendar, x) {
+        CalendarAnswer::Refused(r) => return CodedAxis::Refused(r),
+        CalendarAnswer::Is(calendar) => return CodedAxis::Is(Axis {
+            calendar,
+            period,
+            mode,
+            reference: a.reference,
+        }),
+    }
 }
 
 fn calendar_code(c: Calendar) -> u32
     ensures { λ r. ⌜ r ≡ calendarCode c ⌝ }
 {
     match c {
-        Calendar::Standard => return 0,
+        Calendar::Standard(_) => return 0,
         Calendar::ProlepticGregorian => return 1,
         Calendar::Julian => return 2,
         Calendar::NoLeap => return 3,
@@ -159,8 +183,9 @@ fn mode_code(m: Mode) -> u32
     }
 }
 
-pub fn axis_code(a: Axis) -> UppinaloAxis
-    ensures { λ r. ⌜ r ≡ axisCode a ⌝ }
+// The codes of an axis, beside a cutover.
+pub fn axis_code(a: Axis, cutover: Date) -> UppinaloAxis
+    ensures { λ r. ⌜ r ≡ axisCode a cutover ⌝ }
 {
     let c = a.calendar;
     let p = a.period;
@@ -170,5 +195,6 @@ pub fn axis_code(a: Axis) -> UppinaloAxis
         period: period_code(p),
         mode: mode_code(m),
         reference: a.reference,
+        cutover,
     }
 }

@@ -23,7 +23,9 @@ use Rattle.iso_form.proofs.Laws.{iso-length}
 use Rattle.signed.specs.Sign.{withSign}
 use Rattle.written_instant.specs.Instants.{localFields, ranged, lessZone, writtenInstant}
 use Rattle.named_text.proofs.Laws.{text-named, text-read}
-use Rattle.calendar_name.specs.Names.{calendarOf}
+use Rattle.named_text.specs.Texts.{namedCalendar}
+use Rattle.cutover.specs.declared.CalendarAnswer.{CalendarAnswer}
+use Rattle.calendar.specs.declared.Date.{Date}
 use Rattle.iso_text.proofs.Laws.{year-small}
 use Rattle.iso_text.specs.Iso.{isNegative, utcDate, textOf, readIso}
 
@@ -66,12 +68,12 @@ module _ (c : Calendar) (t : ℤ) (f : Fields) (e : fieldsAnswer c t ≡ FieldsA
       ∙ (ap (lessZone c utc) (instant-of-fields c t f e)
       ∙ (ap (ranged c) (+ℤ-idr t) ∙ r))
 
-  -- reading the text of an instant gives the instant, under every name of its calendar
-  pub round-trip : (name : List ℕ) → calendarOf name ≡ some c → readIso name (textOf f) ≡ InstantAnswer.Is t
+  -- reading the text of an instant gives the instant, under every name of its calendar, with its cutover
+  pub round-trip : (name : List ℕ) (x : Date) → namedCalendar name x ≡ CalendarAnswer.Is c → readIso name x (textOf f) ≡ InstantAnswer.Is t
   unfolding readIso
-  round-trip name n =
+  round-trip name x n =
       let l : length (textOf f) ≤ 128 = omega (arith, iso-length (utcDate f)) in
-      sym (text-read InstantAnswer.Refused dateRule writtenInstant name (textOf f) c (some (utcDate f)) (text-named name (textOf f) (some c) l n) read-text) ∙ instant-back
+      sym (text-read InstantAnswer.Refused dateRule writtenInstant name x (textOf f) c (some (utcDate f)) (text-named name x (textOf f) (CalendarAnswer.Is c) l n) read-text) ∙ instant-back
 
 -- no two instants of one calendar share a text
 pub one-text : (c : Calendar) (t u : ℤ) (f g : Fields) → fieldsAnswer c t ≡ FieldsAnswer.Is f → fieldsAnswer c u ≡ FieldsAnswer.Is g → textOf f ≡ textOf g → t ≡ u

@@ -1,10 +1,11 @@
--- Reading and writing ISO text: document 01, "The units text" and "Numbers returned". A text is refused with 1, 2, 3, 4, 5 in that order,
--- and writing with 5, then 7.
+-- Reading and writing ISO text: document 01, "The units text" and "Numbers returned", and document 02, CR 5 and CR 8. A text is refused with 1, 2, 16, 3,
+-- then as its date is, and writing with 5, then 7.
 use mathlib.Core.Bool.{Bool, true, false}
 use mathlib.Core.List.{List}
 use Prim.Native.Nat.{ℕ}
 use lib.IntN.{ℤ, pos, negsuc, natAbs}
 use Rattle.calendar.specs.declared.Calendar.{Calendar}
+use Rattle.calendar.specs.declared.Date.{Date}
 use Rattle.instant.specs.Instant.{fieldsAnswer}
 use Rattle.instant.specs.declared.Fields.{Fields}
 use Rattle.instant.specs.declared.FieldsAnswer.{FieldsAnswer}
@@ -18,8 +19,8 @@ use Rattle.iso_form.specs.declared.LengthAnswer.{LengthAnswer}
 
 -- ---- reading
 
-unfoldable pub readIso : List ℕ → List ℕ → InstantAnswer
-readIso name text = readText InstantAnswer.Refused dateRule writtenInstant name text
+unfoldable pub readIso : List ℕ → Date → List ℕ → InstantAnswer
+readIso name x text = readText InstantAnswer.Refused dateRule writtenInstant name x text
 
 -- ---- writing
 

@@ -1,4 +1,4 @@
-// ISO text: an instant read from a calendar name and a text, and an instant written into lent room (specs/Iso.antt). `read_iso` and
+// ISO text: an instant read from a calendar name, a cutover and a text, and an instant written into lent room (specs/Iso.antt). `read_iso` and
 // `write_iso` are total. proofs/RoundTrip.antt shows that reading what was written gives the instant, so that no two instants of a calendar share a text.
 ghost use mathlib.Core.Path.{_≡_};
 ghost use mathlib.Core.Bool.{true};
@@ -6,6 +6,8 @@ ghost use lib.IntN.{natAbs};
 ghost use Rattle.calendar.specs.Calendar.{inYears};
 ghost use Rattle.iso_text.specs.Iso.{readIso, utcDate, writeIso, roomIso};
 use calendar::Calendar;
+use calendar::Date;
+use cutover::CalendarAnswer;
 use date_text::Time;
 use date_text::WrittenAnswer;
 use date_text::WrittenDate;
@@ -14,16 +16,15 @@ use instant::Fields;
 use instant::FieldsAnswer;
 use instant::InstantAnswer;
 use iso_form::LengthAnswer;
-use named_text::TextCalendar;
 use refusal::Refusal;
 
-// The instant of a text in the calendar of a name.
-pub fn read_iso(name: &[u8], text: &[u8]) -> InstantAnswer
-    ensures { λ r. ⌜ r ≡ readIso (now (name .entry)) (now (text .entry)) ⌝ }
+// The instant of a text in the calendar of a name with a cutover.
+pub fn read_iso(name: &[u8], x: Date, text: &[u8]) -> InstantAnswer
+    ensures { λ r. ⌜ r ≡ readIso (now (name .entry)) x (now (text .entry)) ⌝ }
 {
-    match named_text::text_calendar(name, text) {
-        TextCalendar::Refused(r) => return InstantAnswer::Refused(r),
-        TextCalendar::Is(c) => {
+    match named_text::text_calendar(name, x, text) {
+        CalendarAnswer::Refused(r) => return InstantAnswer::Refused(r),
+        CalendarAnswer::Is(c) => {
             let WrittenAnswer::Read(w) = date_text::read_date(text) else {
                 return InstantAnswer::Refused(Refusal::IllFormed);
             };

@@ -26,6 +26,7 @@ use Rattle.axis_types.specs.declared.Reading.{Reading}
 use Rattle.axis.specs.Axis.{readOffset}
 use Rattle.axis_types.specs.declared.Offset.{Offset}
 use Rattle.axis.proofs.Demands.{read-inside}
+use Rattle.calendar.specs.Cutover.{firstCutover}
 use Rattle.axis_text.specs.Units.{readUnits}
 use Rattle.axis_text.specs.declared.AxisAnswer.{AxisAnswer}
 use Rattle.iso_form.specs.Form.{twoDigits, lengthAnswer}
@@ -55,7 +56,7 @@ module _ (c : Calendar) (t : ℤ) (exact : Bool) where
   on-axis (AxisAnswer.Refused r) o h = refused-shows h
 
   with-offset : (name units : List ℕ) (o : Option Offset) → withOffset name units o ≡ LineAnswer.Shows c t exact → inRange c t ≡ true
-  with-offset name units (some o) h = on-axis (readUnits name units) o h
+  with-offset name units (some o) h = on-axis (readUnits name firstCutover units) o h
   with-offset name units none h = refused-shows h
 
   of-parts : (ps : List (List ℕ)) → ofParts ps ≡ LineAnswer.Shows c t exact → inRange c t ≡ true

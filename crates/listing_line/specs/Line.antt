@@ -21,6 +21,7 @@ use Rattle.grammar.specs.Reader.{read}
 use Rattle.grammar.specs.Rules.{bytes}
 use Rattle.iso_form.specs.Form.{twoDigits}
 use Rattle.iso_text.specs.Iso.{textOf}
+use Rattle.calendar.specs.Cutover.{firstCutover}
 use Rattle.axis_text.specs.Units.{readUnits}
 use Rattle.axis_text.specs.declared.AxisAnswer.{AxisAnswer}
 use Rattle.offset_text.specs.OffsetRule.{offset}
@@ -50,9 +51,9 @@ abbrev pub onAxis : AxisAnswer → Offset → LineAnswer
 onAxis (AxisAnswer.Is a) o = lineReading (a .calendar) (readOffset a o)
 onAxis (AxisAnswer.Refused r) o = LineAnswer.Refused r
 
--- an offset of another form is refused before the name and the units are looked at
+-- an offset of another form is refused before the name and the units are looked at; the cutover is that of 1582 (document 02, CR 8)
 abbrev pub withOffset : List ℕ → List ℕ → Option Offset → LineAnswer
-withOffset name units (some o) = onAxis (readUnits name units) o
+withOffset name units (some o) = onAxis (readUnits name firstCutover units) o
 withOffset name units none = LineAnswer.Refused IllFormed
 
 -- exactly two bars part the calendar name, the units and the offset

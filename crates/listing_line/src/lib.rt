@@ -61,11 +61,11 @@ fn of_reading(c: Calendar, r: Reading) -> LineAnswer
     }
 }
 
-// The answer of an offset on the axis of a calendar name and a units text.
+// The answer of an offset on the axis of a calendar name and a units text, with the cutover of 1582.
 fn read_parts(name: &[u8], units: &[u8], offset: Offset) -> LineAnswer
     ensures { λ r. ⌜ r ≡ withOffset (now (name .entry)) (now (units .entry)) (some offset) ⌝ }
 {
-    match axis_text::read_units(name, units) {
+    match axis_text::read_units(name, cutover::first_cutover(), units) {
         AxisAnswer::Refused(r) => return LineAnswer::Refused(r),
         AxisAnswer::Is(axis) => {
             let c = axis.calendar;

@@ -6,11 +6,11 @@ use native.Mathlib.Omega.{arith}
 use lib.ListN.{getD}
 use Rattle.refusal.specs.Number.{numberOf}
 use Rattle.refusal.specs.declared.Refusal.{Refusal}
-use Rattle.refusal.specs.declared.Refusal.the-variants.{TextTooLong, UnknownCalendar, IllFormed, ImpossibleField, OutOfRange, Inexact, NoRoom, NotFinite, PartRecord, NotATime, NotOpen, MissingDate, DroppedDate, BadLeapSeconds, Before1972}
+use Rattle.refusal.specs.declared.Refusal.the-variants.{TextTooLong, UnknownCalendar, IllFormed, ImpossibleField, OutOfRange, Inexact, NoRoom, NotFinite, PartRecord, NotATime, NotOpen, MissingDate, DroppedDate, BadLeapSeconds, Before1972, CutoverNotAllowed}
 
 -- the refusals in the order of their numbers, from 1
 refusals : List Refusal
-refusals = TextTooLong ∷ UnknownCalendar ∷ IllFormed ∷ ImpossibleField ∷ OutOfRange ∷ Inexact ∷ NoRoom ∷ NotFinite ∷ PartRecord ∷ NotATime ∷ NotOpen ∷ MissingDate ∷ DroppedDate ∷ BadLeapSeconds ∷ Before1972 ∷ []
+refusals = TextTooLong ∷ UnknownCalendar ∷ IllFormed ∷ ImpossibleField ∷ OutOfRange ∷ Inexact ∷ NoRoom ∷ NotFinite ∷ PartRecord ∷ NotATime ∷ NotOpen ∷ MissingDate ∷ DroppedDate ∷ BadLeapSeconds ∷ Before1972 ∷ CutoverNotAllowed ∷ []
 
 numbered : ℕ → Refusal
 numbered n = getD refusals (n - 1) NotFinite
@@ -32,6 +32,7 @@ back MissingDate = refl
 back DroppedDate = refl
 back BadLeapSeconds = refl
 back Before1972 = refl
+back CutoverNotAllowed = refl
 
 pub one-number : (r q : Refusal) → numberOf r ≡ numberOf q → r ≡ q
 one-number r q e = sym (back r) ∙ (ap numbered e ∙ back q)

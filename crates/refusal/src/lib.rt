@@ -19,6 +19,7 @@ pub enum Refusal {
     DroppedDate,
     BadLeapSeconds,
     Before1972,
+    CutoverNotAllowed,
 }
 
 // The number of a refusal; 0 is kept for success.
@@ -41,5 +42,6 @@ pub fn number(r: Refusal) -> u32
         Refusal::DroppedDate => return 13,
         Refusal::BadLeapSeconds => return 14,
         Refusal::Before1972 => return 15,
+        Refusal::CutoverNotAllowed => return 16,
     }
 }

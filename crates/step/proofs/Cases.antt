@@ -7,6 +7,7 @@ use Rattle.calendar.specs.Calendar.{date, exists, existsBy, times, yearAfter, y
 use Rattle.calendar.specs.Order.{earlier}
 use Rattle.calendar.specs.Plain.{hasDay, kind, monthDays}
 use Rattle.calendar.specs.declared.Calendar.{Calendar}
+use Rattle.calendar.specs.Cutover.{cutoverAfter, lastKeptAfter}
 use Rattle.calendar.specs.declared.Calendar.the-variants.{Standard, ProlepticGregorian, Day360}
 use Rattle.calendar.specs.declared.Date.{Date}
 use Rattle.step.specs.Steps.{stepAfter, stepBefore, steps, downTo, stepsDown, dateAfter, daysBack}
@@ -27,18 +28,18 @@ case part c z x y k = record { is = record { reached = dateAfter part c z x; bac
 
 abbrev pub cases : List Case
 cases =
-    case Part.Month Standard (pos 1) (date (pos 1930) 1 31) (date (pos 1930) 2 28) 3
-    ∷ case Part.Month Standard (pos 2) (date (pos 1930) 1 31) (date (pos 1930) 3 31) 0
-    ∷ case Part.Month Standard (pos 1) (date (pos 1582) 9 10) (date (pos 1582) 10 4) 6
-    ∷ case Part.Month Standard (pos 1) (date (pos 1582) 9 15) (date (pos 1582) 10 15) 0
-    ∷ case Part.Month Standard (pos 1) (date (negsuc 0) 12 31) (date (pos 1) 1 31) 0
+    case Part.Month (Standard 0) (pos 1) (date (pos 1930) 1 31) (date (pos 1930) 2 28) 3
+    ∷ case Part.Month (Standard 0) (pos 2) (date (pos 1930) 1 31) (date (pos 1930) 3 31) 0
+    ∷ case Part.Month (Standard 0) (pos 1) (date (pos 1582) 9 10) (date (pos 1582) 10 4) 6
+    ∷ case Part.Month (Standard 0) (pos 1) (date (pos 1582) 9 15) (date (pos 1582) 10 15) 0
+    ∷ case Part.Month (Standard 0) (pos 1) (date (negsuc 0) 12 31) (date (pos 1) 1 31) 0
     ∷ case Part.Month ProlepticGregorian (pos 1) (date (negsuc 0) 12 31) (date (pos 0) 1 31) 0
     ∷ case Part.Month Day360 (negsuc 10) (date (pos 2024) 1 30) (date (pos 2023) 2 30) 0
-    ∷ case Part.Year Standard (pos 1) (date (pos 1581) 10 14) (date (pos 1582) 10 4) 10
-    ∷ case Part.Year Standard (negsuc 3) (date (pos 2) 2 28) (date (negsuc 2) 2 28) 0
-    ∷ case Part.Year Standard (pos 1) (date (pos 2000) 2 29) (date (pos 2001) 2 28) 1
+    ∷ case Part.Year (Standard 0) (pos 1) (date (pos 1581) 10 14) (date (pos 1582) 10 4) 10
+    ∷ case Part.Year (Standard 0) (negsuc 3) (date (pos 2) 2 28) (date (negsuc 2) 2 28) 0
+    ∷ case Part.Year (Standard 0) (pos 1) (date (pos 2000) 2 29) (date (pos 2001) 2 28) 1
     ∷ []
 
 pub cases-hold : map (λ (k : Case). k .is) cases ≡ map (λ (k : Case). k .expected) cases
-unfolding dateAfter daysBack steps times stepAfter stepBefore yearAfter yearBefore downTo stepsDown exists existsBy earlier hasDay kind monthDays
+unfolding cutoverAfter lastKeptAfter dateAfter daysBack steps times stepAfter stepBefore yearAfter yearBefore downTo stepsDown exists existsBy earlier hasDay kind monthDays
 cases-hold = refl

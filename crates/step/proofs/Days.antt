@@ -42,7 +42,7 @@ module _ (c : Calendar) (y : ℤ) (m : ℕ) where
       go false h = omega (arith, h)
 
   -- no day from above a up to d exists, and a does
-  down-to : (a d : ℕ) → a ≤ d → exists c (date y m a) ≡ true → ((k : ℕ) → a < k → k ≤ d → exists c (date y m k) ≡ false) → downTo c y m d ≡ a
+  pub down-to : (a d : ℕ) → a ≤ d → exists c (date y m a) ≡ true → ((k : ℕ) → a < k → k ≤ d → exists c (date y m k) ≡ false) → downTo c y m d ≡ a
   down-to a d l h f =
       let e : a + (d - a) ≡ d = omega arith in
       ap (downTo c y m) (sym e) ∙ (passed a (d - a) (λ k p q. f k p (omega arith)) ∙ here a h)

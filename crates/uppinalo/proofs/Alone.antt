@@ -21,14 +21,14 @@ use Rattle.run_ends.specs.Each.{Each}
 use Rattle.runs.specs.Run.{checked, roundedCount, overlaid, markOf, checkedFirst, runCheck, checkAnswer, runAnswer, chosen, runWritten}
 use Rattle.runs.specs.declared.Check.{Check}
 use Rattle.runs.proofs.Passes.{each-read, first-refused}
-use Rattle.codes.specs.Codes.{codedAxis, axisCode}
+use Rattle.codes.specs.Codes.{codedAxis}
 use Rattle.codes.specs.declared.CodedAxis.{CodedAxis}
-use Rattle.codes.proofs.Back.{axis-back}
+use Rattle.uppinalo.specs.Given.{GivenAxis, axisGiven, axisCodes}
 use Rattle.uppinalo.specs.Offsets.{ofReading, readOn, ofOffset}
 use Rattle.uppinalo.specs.Runs.{noRun, runOn, destinationOn}
 use Rattle.uppinalo.specs.Demands.{inexactCount, IsRefused, RunByOffsets, RunsByOffsets, PastReference, GoodReference}
 use Rattle.uppinalo.specs.declared.texts.UppinaloReading.{UppinaloReading}
-use Rattle.uppinalo.proofs.Boundary.{whole-is, double-is, write-is, reading-read}
+use Rattle.uppinalo.proofs.Boundary.{axis-is, whole-is, double-is, write-is, reading-read}
 
 -- ---- runs
 
@@ -85,27 +85,27 @@ module _ {A : Type 0} (read : A → Reading) (back : A → ℕ) where
               );
         }
 
-module _ (x : Axis) (g : GoodReference x) where
-  run-of : {A : Type 0} (read : Axis → A → Reading) (back : Axis → A → ℕ) (xs : List A) (ds : List ℤ) → RunByOffsets (λ (y : A). readOn (codedAxis (axisCode x)) (λ (a : Axis). read a y) (λ (a : Axis). back a y)) xs ds (runOn (codedAxis (axisCode x)) read xs ds) (destinationOn (codedAxis (axisCode x)) read xs ds)
+module _ (x : GivenAxis) (g : GoodReference x) where
+  run-of : {A : Type 0} (read : Axis → A → Reading) (back : Axis → A → ℕ) (xs : List A) (ds : List ℤ) → RunByOffsets (λ (y : A). readOn (codedAxis (axisCodes x)) (λ (a : Axis). read a y) (λ (a : Axis). back a y)) xs ds (runOn (codedAxis (axisCodes x)) read xs ds) (destinationOn (codedAxis (axisCodes x)) read xs ds)
   run-of {A} read back xs ds =
-      subst (λ (k : CodedAxis). RunByOffsets (λ (y : A). readOn k (λ (a : Axis). read a y) (λ (a : Axis). back a y)) xs ds (runOn k read xs ds) (destinationOn k read xs ds)) (sym (axis-back x))
-      (run (read x) (back x) (axisCheck x) (good-in x g) xs ds)
+      subst (λ (k : CodedAxis). RunByOffsets (λ (y : A). readOn k (λ (a : Axis). read a y) (λ (a : Axis). back a y)) xs ds (runOn k read xs ds) (destinationOn k read xs ds)) (sym (axis-is x))
+      (run (read (axisGiven x)) (back (axisGiven x)) (axisCheck (axisGiven x)) (good-in (axisGiven x) g) xs ds)
 
   pub runs : RunsByOffsets x
   runs = record { wholes = run-of readWholeOn wholeBack; doubles = run-of readDoubleOn doubleBack }
 
 -- ---- a reference past the years
 
-module _ (x : Axis) (h : inRange (x .calendar) (x .reference) ≡ false) where
-  run-past : {A : Type 0} (read : Axis → A → Reading) (xs : List A) (ds : List ℤ) → runOn (codedAxis (axisCode x)) read xs ds ≡ noRun OutOfRange
+module _ (x : GivenAxis) (h : inRange (x .calendar) (x .reference) ≡ false) where
+  run-past : {A : Type 0} (read : Axis → A → Reading) (xs : List A) (ds : List ℤ) → runOn (codedAxis (axisCodes x)) read xs ds ≡ noRun OutOfRange
   unfolding checkedFirst
   run-past read xs ds =
-      ap (λ (k : CodedAxis). runOn k read xs ds) (axis-back x)
-      ∙ (λ i. checkAnswer (onGood (sym (past-out x h) i) (λ (r : Refusal). Check.Refused r 0) (cond (ltb (length ds) (length xs)) (Check.Refused NoRoom 0) (checked (read x) xs))) (length xs) (roundedCount (read x) xs))
+      ap (λ (k : CodedAxis). runOn k read xs ds) (axis-is x)
+      ∙ (λ i. checkAnswer (onGood (sym (past-out (axisGiven x) h) i) (λ (r : Refusal). Check.Refused r 0) (cond (ltb (length ds) (length xs)) (Check.Refused NoRoom 0) (checked (read (axisGiven x)) xs))) (length xs) (roundedCount (read (axisGiven x)) xs))
 
   pub past-reference : PastReference x
   past-reference =
-      let r = Axes.refused-axis x OutOfRange (past-out x h) in
+      let r = Axes.refused-axis (axisGiven x) OutOfRange (past-out (axisGiven x) h) in
       record {
         read-whole = λ n. whole-is x n (r .0 n);
         read-double = λ y. double-is x y (r .1 y);

@@ -1,4 +1,4 @@
--- What the boundary adds to the answers of the library: the codes of an axis or a calendar name it, and the number of an answer tells which it was.
+-- What the boundary adds to the answers of the library: the codes of an axis or a calendar, with its cutover, name it, and the number of an answer tells which it was.
 use mathlib.Core.Path.{_≡_, refl, sym, ap, _∙_}
 use mathlib.Core.Bool.{Bool, true}
 use Prim.Native.Nat.{ℕ}
@@ -19,41 +19,54 @@ use Rattle.axis_types.specs.declared.Reading.{Reading}
 use Rattle.axis_types.specs.declared.OffsetReading.{OffsetReading}
 use Rattle.axis_types.specs.declared.OffsetAnswer.{OffsetAnswer}
 use Rattle.axis.specs.Axis.{readWholeOn, wholeBack, readDoubleOn, doubleBack}
-use Rattle.codes.specs.Codes.{codedAxis, calendarCode, axisCode}
-use Rattle.codes.specs.declared.CodedCalendar.{CodedCalendar}
+use Rattle.cutover.specs.declared.CalendarAnswer.{CalendarAnswer}
+use Rattle.codes.specs.Codes.{calendarGiven, codedAxis, calendarCode}
 use Rattle.codes.specs.declared.CodedAxis.{CodedAxis}
 use Rattle.codes.proofs.Back.{calendar-back, axis-back}
 use Rattle.uppinalo.specs.Days.{ofDate, ofDay, ofFields, dateByCode, dayByCode, fieldsByCode, uppinaloDateOfDay, uppinaloDayOfDate, uppinaloFieldsOf}
 use Rattle.uppinalo.specs.Offsets.{ofReading, readOn, uppinaloReadWhole, uppinaloReadDouble, ofOffset, writeOn}
+use Rattle.uppinalo.specs.Given.{GivenCalendar, GivenAxis, axisGiven, axisCodes}
 use Rattle.uppinalo.specs.Demands.{ReadsAt, fieldsGiven}
 use Rattle.uppinalo.specs.declared.days.UppinaloFieldsAnswer.{UppinaloFieldsAnswer}
 use Rattle.uppinalo.specs.declared.texts.UppinaloReading.{UppinaloReading}
 
 -- ---- by codes
 
-module _ (x : Axis) where
-  pub read-is : (read : Axis → Reading) (back : Axis → ℕ) → readOn (codedAxis (axisCode x)) read back ≡ ofReading (read x) (back x)
-  read-is read back = ap (λ (k : CodedAxis). readOn k read back) (axis-back x)
+module _ (x : GivenAxis) where
+  abbrev b : Axis
+  b = axisGiven x
+
+  pub axis-is : codedAxis (axisCodes x) ≡ CodedAxis.Is (axisGiven x)
+  axis-is = axis-back b (x .cutover) (x .carries)
+
+  pub read-is : (read : Axis → Reading) (back : Axis → ℕ) → readOn (codedAxis (axisCodes x)) read back ≡ ofReading (read b) (back b)
+  read-is read back = ap (λ (k : CodedAxis). readOn k read back) axis-is
 
   -- where it is known what the reading is
-  pub whole-is : (n : ℤ) {r : Reading} → readWholeOn x n ≡ r → uppinaloReadWhole (axisCode x) n ≡ ofReading r (wholeBack x n)
-  whole-is n h = read-is (λ (a : Axis). readWholeOn a n) (λ (a : Axis). wholeBack a n) ∙ ap (λ (r : Reading). ofReading r (wholeBack x n)) h
+  pub whole-is : (n : ℤ) {r : Reading} → readWholeOn (axisGiven x) n ≡ r → uppinaloReadWhole (axisCodes x) n ≡ ofReading r (wholeBack (axisGiven x) n)
+  whole-is n h = read-is (λ (a : Axis). readWholeOn a n) (λ (a : Axis). wholeBack a n) ∙ ap (λ (r : Reading). ofReading r (wholeBack b n)) h
 
-  pub double-is : (y : Float) {r : Reading} → readDoubleOn x y ≡ r → uppinaloReadDouble (axisCode x) y ≡ ofReading r (doubleBack x y)
-  double-is y h = read-is (λ (a : Axis). readDoubleOn a y) (λ (a : Axis). doubleBack a y) ∙ ap (λ (r : Reading). ofReading r (doubleBack x y)) h
+  pub double-is : (y : Float) {r : Reading} → readDoubleOn (axisGiven x) y ≡ r → uppinaloReadDouble (axisCodes x) y ≡ ofReading r (doubleBack (axisGiven x) y)
+  double-is y h = read-is (λ (a : Axis). readDoubleOn a y) (λ (a : Axis). doubleBack a y) ∙ ap (λ (r : Reading). ofReading r (doubleBack b y)) h
 
-  pub write-is : (write : Axis → OffsetAnswer) → writeOn (codedAxis (axisCode x)) write ≡ ofOffset (write x)
-  write-is write = ap (λ (k : CodedAxis). writeOn k write) (axis-back x)
+  pub write-is : (write : Axis → OffsetAnswer) → writeOn (codedAxis (axisCodes x)) write ≡ ofOffset (write (axisGiven x))
+  write-is write = ap (λ (k : CodedAxis). writeOn k write) axis-is
 
-module _ (c : Calendar) where
-  pub date-is : (n : ℤ) → uppinaloDateOfDay (calendarCode c) n ≡ ofDate (dateAnswer c n)
-  date-is n = ap (λ (k : CodedCalendar). dateByCode k n) (calendar-back c)
+module _ (g : GivenCalendar) where
+  abbrev c : Calendar
+  c = g .calendar
 
-  pub day-is : (d : Date) → uppinaloDayOfDate (calendarCode c) d ≡ ofDay (dayAnswer c d)
-  day-is d = ap (λ (k : CodedCalendar). dayByCode k d) (calendar-back c)
+  pub calendar-is : calendarGiven (calendarCode (g .calendar)) (g .cutover) ≡ CalendarAnswer.Is (g .calendar)
+  calendar-is = calendar-back c (g .cutover) (g .carries)
 
-  pub fields-is : (t : ℤ) → uppinaloFieldsOf (calendarCode c) t ≡ ofFields (fieldsAnswer c t)
-  fields-is t = ap (λ (k : CodedCalendar). fieldsByCode k t) (calendar-back c)
+  pub date-is : (n : ℤ) → uppinaloDateOfDay (calendarCode c) (g .cutover) n ≡ ofDate (dateAnswer c n)
+  date-is n = ap (λ (k : CalendarAnswer). dateByCode k n) calendar-is
+
+  pub day-is : (d : Date) → uppinaloDayOfDate (calendarCode c) (g .cutover) d ≡ ofDay (dayAnswer c d)
+  day-is d = ap (λ (k : CalendarAnswer). dayByCode k d) calendar-is
+
+  pub fields-is : (t : ℤ) → uppinaloFieldsOf (calendarCode c) (g .cutover) t ≡ ofFields (fieldsAnswer c t)
+  fields-is t = ap (λ (k : CalendarAnswer). fieldsByCode k t) calendar-is
 
 -- ---- what a call shows of a reading
 

@@ -1,7 +1,7 @@
 -- The demands of specs/Demands.antt, all of them. Each part is proved in a file of its own, from the theorems of the crates below.
-use Rattle.codes.proofs.Back.{calendar-back, axis-back, calendar-known, axis-known}
 use Rattle.uppinalo.specs.Demands.{Demands}
-use Rattle.uppinalo.proofs.Unnamed.{other-codes, other-calendar}
+use Rattle.uppinalo.proofs.Unnamed.{codes, other-codes, other-calendar}
+use Rattle.uppinalo.proofs.Cutovers.{cutovers}
 use Rattle.uppinalo.proofs.Zeros.{refusals}
 use Rattle.uppinalo.proofs.NextDay.{dates, days-after, days}
 use Rattle.uppinalo.proofs.Writings.{writing}
@@ -20,9 +20,10 @@ use Rattle.uppinalo.proofs.UtcTimes.{bad-lists, utc-times}
 pub demands : Demands
 demands =
     record {
-      codes = record { taken-back = axis-back; calendar-back = calendar-back; only-codes = axis-known; only-calendar = calendar-known };
+      codes = codes;
       other-codes = other-codes;
       other-calendar = other-calendar;
+      cutovers = cutovers;
       refusals = refusals;
       dates = dates;
       days-there = days-after;

@@ -9,7 +9,6 @@ use Rattle.refusal.specs.declared.Refusal.the-variants.{OutOfRange}
 use Rattle.calendar.specs.declared.Calendar.{Calendar}
 use Rattle.instant.specs.Instant.{inRange}
 use Rattle.axis_types.specs.Lengths.{lengthOf}
-use Rattle.axis_types.specs.declared.Axis.{Axis}
 use Rattle.axis_types.specs.declared.Mode.{Mode}
 use Rattle.axis_types.specs.declared.Period.{Period}
 use Rattle.axis_types.specs.declared.Reading.{Reading}
@@ -19,13 +18,13 @@ use Rattle.fixed_axis.proofs.Demands as Fixed
 use Rattle.axis.specs.Axis.{doubleBack}
 use Rattle.axis.proofs.Laws.{good-in}
 use Rattle.axis.proofs.Demands as Axes
-use Rattle.codes.specs.Codes.{axisCode}
+use Rattle.uppinalo.specs.Given.{GivenAxis, axisGiven, axisCodes}
 use Rattle.uppinalo.specs.Offsets.{ofReading, uppinaloReadDouble}
 use Rattle.uppinalo.specs.Demands.{ReadsAt, DoublesRead, GoodReference}
 use Rattle.uppinalo.specs.declared.texts.UppinaloReading.{UppinaloReading}
 use Rattle.uppinalo.proofs.Boundary.{double-is, reading-at, reading-refused}
 
-module _ (x : Axis) (m : x .mode ≡ Mode.Fixed) (g : GoodReference x) where
+module _ (x : GivenAxis) (m : x .mode ≡ Mode.Fixed) (g : GoodReference x) where
   abbrev calendar : Calendar
   calendar = x .calendar
 
@@ -37,15 +36,15 @@ module _ (x : Axis) (m : x .mode ≡ Mode.Fixed) (g : GoodReference x) where
 
   -- what the call answers, of a reading on the axis
   abbrev alone : Float → Reading → UppinaloReading
-  alone y r = ofReading r (doubleBack x y)
+  alone y r = ofReading r (doubleBack (axisGiven x) y)
 
-  read-double : (y : Float) → uppinaloReadDouble (axisCode x) y ≡ alone y (readDouble calendar period reference y)
-  read-double y = double-is x y (Axes.fixed-double x y (good-in x g) m)
+  read-double : (y : Float) → uppinaloReadDouble (axisCodes x) y ≡ alone y (readDouble calendar period reference y)
+  read-double y = double-is x y (Axes.fixed-double (axisGiven x) y (good-in (axisGiven x) g) m)
 
-  double-at : (y : Float) (z : ℤ) (exact : Bool) → ReadsAt (uppinaloReadDouble (axisCode x) y) z exact → readDouble calendar period reference y ≡ Reading.At z exact
-  double-at y z exact h = reading-at (readDouble calendar period reference y) (doubleBack x y) z exact (subst (λ (a : UppinaloReading). ReadsAt a z exact) (read-double y) h)
+  double-at : (y : Float) (z : ℤ) (exact : Bool) → ReadsAt (uppinaloReadDouble (axisCodes x) y) z exact → readDouble calendar period reference y ≡ Reading.At z exact
+  double-at y z exact h = reading-at (readDouble calendar period reference y) (doubleBack (axisGiven x) y) z exact (subst (λ (a : UppinaloReading). ReadsAt a z exact) (read-double y) h)
 
-  number-is : (y : Float) → uppinaloReadDouble (axisCode x) y .number ≡ alone y (readDouble calendar period reference y) .number
+  number-is : (y : Float) → uppinaloReadDouble (axisCodes x) y .number ≡ alone y (readDouble calendar period reference y) .number
   number-is y = ap (λ (a : UppinaloReading). a .number) (read-double y)
 
   only-past : (s : Bool) (k : ℕ) (e : ℤ) → (alone (fin s k e) (readDouble calendar period reference (fin s k e)) .number ≡ 5 → ⊥) → alone (fin s k e) (readDouble calendar period reference (fin s k e)) .number ≡ 0
@@ -65,7 +64,7 @@ module _ (x : Axis) (m : x .mode ≡ Mode.Fixed) (g : GoodReference x) where
         one-nearest = Fixed.nearest-only calendar period reference;
         right = λ s k e z exact h. Fixed.read-right calendar period reference s k e z exact (double-at (fin s k e) z exact h);
         past = λ s k e z n. (
-          (λ h. Fixed.refused-past calendar period reference s k e z n (reading-refused (readDouble calendar period reference (fin s k e)) (doubleBack x (fin s k e)) OutOfRange (sym (number-is (fin s k e)) ∙ h))),
+          (λ h. Fixed.refused-past calendar period reference s k e z n (reading-refused (readDouble calendar period reference (fin s k e)) (doubleBack (axisGiven x) (fin s k e)) OutOfRange (sym (number-is (fin s k e)) ∙ h))),
           λ h. number-is (fin s k e) ∙ ap (λ (r : Reading). alone (fin s k e) r .number) (Fixed.past-refused calendar period reference s k e z n h),
         );
         only-past = λ s k e h. number-is (fin s k e) ∙ only-past s k e (λ q. h (number-is (fin s k e) ∙ q));

@@ -9,6 +9,7 @@ use lib.ListN.{length, take}
 use borrow.Author.Tests.{eq-eqb, le-leb, lt-ltb, le-ltb, eqb-true, leb-true, ltb-true, ltb-false}
 use Rattle.signed.proofs.Tests.{both, and-parts, to-false}
 use Rattle.calendar.specs.declared.Calendar.{Calendar}
+use Rattle.calendar.specs.declared.Date.{Date}
 use Rattle.instant.specs.declared.InstantAnswer.{InstantAnswer}
 use Rattle.named_text.proofs.Laws.{text-outcome}
 use Rattle.units_text.specs.UnitsRule.{units}
@@ -32,12 +33,12 @@ use Rattle.uppinalo.proofs.Derived.{before-texts}
 NotEleven : UppinaloAxisAnswer → Type 0
 NotEleven a = a .number ≡ 11 → ⊥
 
-read-not-eleven : (name text : List ℕ) → NotEleven (uppinaloReadUnits name text)
+read-not-eleven : (name : List ℕ) (cutover : Date) (text : List ℕ) → NotEleven (uppinaloReadUnits name cutover text)
 unfolding NotEleven readUnits
-read-not-eleven name text = text-outcome AxisAnswer.Refused units axisOf name text (λ (a : AxisAnswer). NotEleven (ofAxis a)) (λ r l h. omega (arith, l, h)) (λ c u _. given c u)
+read-not-eleven name cutover text = text-outcome AxisAnswer.Refused units axisOf name cutover text (λ (a : AxisAnswer). NotEleven (ofAxis a cutover)) (λ r l h. omega (arith, l, h)) (λ h. omega (arith, h)) (λ c u _. given c u)
   where
-    given : (c : Calendar) (u : Units) → NotEleven (ofAxis (axisOf c u))
-    given c u = written-outcome c (u .reference) (λ (a : InstantAnswer). NotEleven (ofAxis (axisAt c u a))) (λ t _ h. omega (arith, h)) (λ h. omega (arith, h)) (λ h. omega (arith, h)) (λ h. omega (arith, h)) (λ h. omega (arith, h))
+    given : (c : Calendar) (u : Units) → NotEleven (ofAxis (axisOf c u) cutover)
+    given c u = written-outcome c (u .reference) (λ (a : InstantAnswer). NotEleven (ofAxis (axisAt c u a) cutover)) (λ t _ h. omega (arith, h)) (λ h. omega (arith, h)) (λ h. omega (arith, h)) (λ h. omega (arith, h)) (λ h. omega (arith, h))
 
 -- ---- states
 
@@ -62,12 +63,12 @@ module _ (s : UnitsState) where
   add-eleven : (f : List ℕ) → uppinaloAddUnits s f ≡ 11 → isOpen s ≡ false
   add-eleven f h = to-false (isOpen s) (λ e. let k : _≡_ {A = ℕ} 0 11 = sym (add-open f e) ∙ h in omega (arith, k))
 
-  end-eleven : (name : List ℕ) → uppinaloEndUnits s name .number ≡ 11 → isOpen s ≡ false
+  end-eleven : (name : List ℕ) (cutover : Date) → uppinaloEndUnits s name cutover .number ≡ 11 → isOpen s ≡ false
   unfolding NotEleven
-  end-eleven name h = to-false (isOpen s) (λ e. open-outcome s name NotEleven e (λ k. omega (arith, k)) (read-not-eleven name) h)
+  end-eleven name cutover h = to-false (isOpen s) (λ e. open-outcome s name cutover NotEleven e (λ k. omega (arith, k)) (read-not-eleven name cutover) h)
 
-  end-refused : (name : List ℕ) → isOpen s ≡ false → uppinaloEndUnits s name .number ≡ 11
-  end-refused name e = ap (λ (a : UppinaloAxisAnswer). a .number) (end-closed s name e)
+  end-refused : (name : List ℕ) (cutover : Date) → isOpen s ≡ false → uppinaloEndUnits s name cutover .number ≡ 11
+  end-refused name cutover e = ap (λ (a : UppinaloAxisAnswer). a .number) (end-closed s name cutover e)
 
   closed-state : isOpen s ≡ false → OpenState s → ⊥
   closed-state e o = true≢false (sym (open-test o) ∙ e)
@@ -82,8 +83,8 @@ module _ (s : UnitsState) where
 
 -- ---- the text
 
-joined-read : (fs : List (List ℕ)) (name : List ℕ) → uppinaloEndUnits (afterEach uppinaloAddUnitsState uppinaloStartUnits fs) name ≡ uppinaloReadUnits name (concatenation fs)
-joined-read fs name = end-open s name (fragments-open fs) ∙ so-far (ltb 128 (length text)) refl
+joined-read : (fs : List (List ℕ)) (name : List ℕ) (cutover : Date) → uppinaloEndUnits (afterEach uppinaloAddUnitsState uppinaloStartUnits fs) name cutover ≡ uppinaloReadUnits name cutover (concatenation fs)
+joined-read fs name cutover = end-open s name cutover (fragments-open fs) ∙ so-far (ltb 128 (length text)) refl
   where
     s : UnitsState
     s = afterEach uppinaloAddUnitsState uppinaloStartUnits fs
@@ -91,14 +92,14 @@ joined-read fs name = end-open s name (fragments-open fs) ∙ so-far (ltb 128 (l
     text : List ℕ
     text = concatenation fs
 
-    so-far : (b : Bool) → ltb 128 (length text) ≡ b → readSoFar s name ≡ uppinaloReadUnits name text
+    so-far : (b : Bool) → ltb 128 (length text) ≡ b → readSoFar s name cutover ≡ uppinaloReadUnits name cutover text
     so-far true e =
         let h = ltb-true 128 (length text) e in
-        rw (lt-ltb 128 (s .count) (omega (arith, fragments-long fs h))) (sym (before-texts name text .units-long h))
+        rw (lt-ltb 128 (s .count) (omega (arith, fragments-long fs h))) (sym (before-texts name cutover text .units-long h))
     so-far false e =
         let h = ltb-false 128 (length text) e in
         let at = fragments-count fs h in
-        rw (le-ltb 128 (s .count) (omega (arith, at, h))) (ap (uppinaloReadUnits name) (ap (λ (n : ℕ). take n (s .bytes)) at ∙ fragments-bytes fs h))
+        rw (le-ltb 128 (s .count) (omega (arith, at, h))) (ap (uppinaloReadUnits name cutover) (ap (λ (n : ℕ). take n (s .bytes)) at ∙ fragments-bytes fs h))
 
 pub fragments : TextsInFragments
 fragments =
@@ -108,9 +109,9 @@ fragments =
       add-refused = λ s f. ((λ h. closed-state s (add-eleven s f h)), λ g. add-closed s f (closed-test s g));
       add-taken = λ s f o. add-open s f (open-test s o);
       add-kept = λ s f h. kept-by-fragment s (add-eleven s f h) f;
-      end-refused = λ s name. ((λ h. closed-state s (end-eleven s name h)), λ g. end-refused s name (closed-test s g));
-      end-kept = λ s name h. kept-by-end s (end-eleven s name h);
-      ends = λ s name o. open-end s (open-test s o);
-      no-fragment = λ s name f. add-closed (afterEnd s) f (ended-closed s);
-      no-second-end = λ s name again. end-refused (afterEnd s) again (ended-closed s);
+      end-refused = λ s name cutover. ((λ h. closed-state s (end-eleven s name cutover h)), λ g. end-refused s name cutover (closed-test s g));
+      end-kept = λ s name cutover h. kept-by-end s (end-eleven s name cutover h);
+      ends = λ s name cutover o. open-end s (open-test s o);
+      no-fragment = λ s name cutover f. add-closed (afterEnd s) f (ended-closed s);
+      no-second-end = λ s name cutover again other. end-refused (afterEnd s) again other (ended-closed s);
     }

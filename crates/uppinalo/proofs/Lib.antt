@@ -2,6 +2,7 @@ pub mod OverState
 pub mod SoFar
 pub mod Boundary
 pub mod Unnamed
+pub mod Cutovers
 pub mod Zeros
 pub mod NextDay
 pub mod Writings

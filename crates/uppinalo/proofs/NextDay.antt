@@ -12,7 +12,6 @@ use Rattle.calendar.proofs.Answering.{year-out, date-there}
 use Rattle.calendar.proofs.Theorems.{dates-exist, days-there, days-only}
 use Rattle.instant.specs.Instant.{dayOf, timeOf, inRange, fieldsAt, withTime, fieldsAnswer}
 use Rattle.instant.proofs.Theorems.{fields-in}
-use Rattle.axis_types.specs.declared.Axis.{Axis}
 use Rattle.axis_types.specs.declared.Period.{Period}
 use Rattle.axis_types.specs.declared.Reading.{Reading}
 use Rattle.fixed_axis.specs.Fixed.{timeAfter, readWhole}
@@ -22,7 +21,7 @@ use Rattle.fixed_axis.proofs.Readings.{settled}
 use Rattle.axis.specs.Axis.{wholeBack}
 use Rattle.axis.proofs.Laws.{good-in}
 use Rattle.axis.proofs.Demands as Axes
-use Rattle.codes.specs.Codes.{axisCode}
+use Rattle.uppinalo.specs.Given.{GivenCalendar, GivenAxis, axisGiven, calendarOn, axisCodes}
 use Rattle.uppinalo.specs.Days.{ofDate, noDate, ofDay, noFields, ofFields}
 use Rattle.uppinalo.specs.Offsets.{ofReading, uppinaloReadWhole}
 use Rattle.uppinalo.specs.Demands.{GoodReference, fieldsGiven, IsDay, DatesByNextDay, DaysFromReference, DaysRead}
@@ -60,26 +59,27 @@ module _ (c : Calendar) where
       go true = refl
       go false = refl
 
-  pub dates : DatesByNextDay c
-  dates =
-      record {
-        dated = dated;
-        one-date = λ n d e p q. is-date n d p ∙ sym (is-date n e q);
-        date-of-day = λ n d p. date-is c n ∙ (answered n ∙ ap inYearsOnly (sym (is-date n d p)));
-        fields-of = λ t d p. fields-is c t ∙ fields-answered t d p;
-        day-of-date = λ n d p h. day-is c d ∙ ap ofDay (sym (date-there c d n h (p .there) (sym (is-date n d p))));
-        year-past = λ x h. day-is c x ∙ ap ofDay (sym (year-out true c x h));
-      }
+pub dates : (g : GivenCalendar) → DatesByNextDay (g .calendar) (g .cutover)
+dates g =
+    let c = g .calendar in
+    record {
+      dated = dated c;
+      one-date = λ n d e p q. is-date c n d p ∙ sym (is-date c n e q);
+      date-of-day = λ n d p. date-is g n ∙ (answered c n ∙ ap (inYearsOnly c) (sym (is-date c n d p)));
+      fields-of = λ t d p. fields-is g t ∙ fields-answered c t d p;
+      day-of-date = λ n d p h. day-is g d ∙ ap ofDay (sym (date-there c d n h (p .there) (sym (is-date c n d p))));
+      year-past = λ x h. day-is g x ∙ ap ofDay (sym (year-out true c x h));
+    }
 
 -- ---- demand 2: days from a reference
 
-pub days-after : (x : Axis) → GoodReference x → x .period ≡ Period.Day → (n : ℤ) → (r : Date) × (d : Date) × DaysFromReference x n r d
+pub days-after : (x : GivenAxis) → GoodReference x → x .period ≡ Period.Day → (n : ℤ) → (r : Date) × (d : Date) × DaysFromReference x n r d
 days-after x g e n =
     let c = x .calendar in
     let z = dayOf (x .reference) in
     (dateOf c z, dateOf c (z +ℤ n), record { good = g; days = e; from = dated c z; there = dates-exist c (z +ℤ n); steps = days-there c z n })
 
-module _ (x : Axis) (n : ℤ) (r d : Date) (h : DaysFromReference x n r d) where
+module _ (x : GivenAxis) (n : ℤ) (r d : Date) (h : DaysFromReference x n r d) where
   abbrev c : Calendar
   c = x .calendar
 
@@ -92,8 +92,8 @@ module _ (x : Axis) (n : ℤ) (r d : Date) (h : DaysFromReference x n r d) where
       let s = subst (λ (y : Date). DaysOn c y n d) (is-date c z r (h .from)) (h .steps) in
       ap (dateOf c) (day-after (x .reference) n) ∙ sym (days-only c z n d (h .there) s)
 
-  by-days : {r : Reading} → readWhole c Period.Day (x .reference) n ≡ r → uppinaloReadWhole (axisCode x) n ≡ ofReading r (wholeBack x n)
-  by-days e = whole-is x n (Axes.days-read x (good-in x (h .good)) (h .days) n ∙ e)
+  by-days : {r : Reading} → readWhole c Period.Day (x .reference) n ≡ r → uppinaloReadWhole (axisCodes x) n ≡ ofReading r (wholeBack (axisGiven x) n)
+  by-days e = whole-is x n (Axes.days-read (axisGiven x) (good-in (axisGiven x) (h .good)) (h .days) n ∙ e)
 
   in-years-of : {b : Bool} → inYears (d .year) ≡ b → inRange c t ≡ b
   in-years-of k = ap (λ (y : Date). inYears (y .year)) date-of-time ∙ k
@@ -104,8 +104,8 @@ module _ (x : Axis) (n : ℤ) (r d : Date) (h : DaysFromReference x n r d) where
       record {
         inside = λ k. (
           t,
-          at-reading (uppinaloReadWhole (axisCode x) n) (wholeBack x n) t true (by-days (reads c Period.Day (x .reference) n t (in-years-of k) refl)),
-          fields-is c t ∙ (ap ofFields (fields-in c t (in-years-of k)) ∙ (λ i. fieldsGiven (fieldsAt (date-of-time i) (time-after (x .reference) n i)))),
+          at-reading (uppinaloReadWhole (axisCodes x) n) (wholeBack (axisGiven x) n) t true (by-days (reads c Period.Day (x .reference) n t (in-years-of k) refl)),
+          fields-is (calendarOn x) t ∙ (ap ofFields (fields-in c t (in-years-of k)) ∙ (λ i. fieldsGiven (fieldsAt (date-of-time i) (time-after (x .reference) n i)))),
         );
         past = λ k. by-days (sym (settled c t true (in-years-of k)));
       }

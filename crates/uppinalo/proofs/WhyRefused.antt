@@ -3,7 +3,6 @@ use mathlib.Core.Path.{_≡_, refl, sym, ap, _∙_, subst}
 use mathlib.Core.Bool.{Bool, true, false, _&&_, and-false, cond, true≢false}
 use mathlib.Core.List.{List}
 use mathlib.Core.Logic.{_↔_}
-use mathlib.Core.Option.{some}
 use Prim.Native.Nat.{ℕ, _≤_, _<_}
 use native.Mathlib.Omega.{arith}
 use lib.Dec.{ltb}
@@ -27,8 +26,10 @@ use Rattle.instant.specs.Instant.{dayOf, timeOf, inRange, instantAt, fieldsAt, 
 use Rattle.instant.specs.declared.Fields.{Fields}
 use Rattle.instant.specs.declared.InstantAnswer.{InstantAnswer}
 use Rattle.instant.proofs.Theorems.{time-small, shown, refused-as-date, fields-had, fields-of-instant}
-use Rattle.axis_types.specs.declared.Axis.{Axis}
-use Rattle.calendar_name.specs.Names.{calendarOf}
+use Rattle.calendar.specs.Cutover.{firstCutover}
+use Rattle.cutover.specs.declared.CalendarAnswer.{CalendarAnswer}
+use Rattle.cutover.proofs.Theorems.{noleap, any-cutover}
+use Rattle.named_text.specs.Texts.{namedCalendar}
 use Rattle.grammar.specs.Grammar.{Derives}
 use Rattle.date_text.specs.DateRule.{dateRule}
 use Rattle.date_text.specs.declared.WrittenDate.{WrittenDate}
@@ -39,7 +40,8 @@ use Rattle.units_text.proofs.Texts.{date-at-end}
 use Rattle.written_instant.specs.Instants.{localFields, isZone, ahead, lessZone, writtenInstant}
 use Rattle.written_instant.proofs.Order.{year-derived, possibleWritten, localInstant, written-in}
 use Rattle.axis_text.specs.Units.{axisAt}
-use Rattle.codes.specs.Codes.{calendarCode, axisCode}
+use Rattle.codes.specs.Codes.{calendarCode}
+use Rattle.uppinalo.specs.Given.{GivenCalendar, GivenAxis, axisCodes}
 use Rattle.uppinalo.specs.Days.{ofDay, ofFields, uppinaloDayOfDate, uppinaloFieldsOf}
 use Rattle.uppinalo.specs.Offsets.{uppinaloWriteFields}
 use Rattle.uppinalo.specs.Texts.{ofInstant, ofAxis, uppinaloReadIso, uppinaloReadUnits}
@@ -56,13 +58,10 @@ use Rattle.uppinalo.proofs.Derived.{texts}
 
 module _ (c : Calendar) (x : Date) where
   dropped-day : dropped c x ≡ true → DroppedDay c x
-  dropped-day h =
-      let w = dropped-only c x h in
-      let m = w .1 in
-      record { calendar = w .0; year = sym (m .year); month = sym (m .month); from = omega (arith, m .after); to = omega (arith, m .before) }
+  dropped-day h = let w = dropped-only c x h in record { days = w .0; calendar = w .1; listed = w .2 }
 
   day-dropped : DroppedDay c x → dropped c x ≡ true
-  day-dropped d = ap (λ (k : Calendar). dropped k x) (d .calendar) ∙ dropped-all x (record { year = sym (d .year); month = sym (d .month); after = omega (arith, d .from); before = omega (arith, d .to) })
+  day-dropped d = ap (λ (k : Calendar). dropped k x) (d .calendar) ∙ dropped-all (d .days) x (d .listed)
 
   not-dropped : exists c x ≡ true → DroppedDay c x → ⊥
   not-dropped h d = true≢false (sym h ∙ dropped-not-there c x (day-dropped d))
@@ -121,17 +120,21 @@ module _ (x : Date) where
 abbrev onNewYear : ℕ → ℕ → ℕ → ℕ → Fields
 onNewYear h m s u = record { year = pos 2000; month = 1; day = 1; hour = h; minute = m; second = s; microsecond = u }
 
-time-had : (h m s u : ℕ) → isClock (onNewYear h m s u) ≡ true → (t : ℤ) × (uppinaloFieldsOf (calendarCode NoLeap) t ≡ record { number = 0; fields = onNewYear h m s u })
+abbrev givenNoLeap : GivenCalendar
+givenNoLeap = record { calendar = NoLeap; cutover = firstCutover; carries = any-cutover NoLeap noleap firstCutover }
+
+time-had : (h m s u : ℕ) → isClock (onNewYear h m s u) ≡ true → (t : ℤ) × (uppinaloFieldsOf (calendarCode NoLeap) firstCutover t ≡ record { number = 0; fields = onNewYear h m s u })
 time-had h m s u k =
     let f = onNewYear h m s u in
     let t = instantAt (dayNumber NoLeap (dateIn f)) (clockTime f) in
-    (t, fields-is NoLeap t ∙ ap ofFields (fields-of-instant NoLeap f t (sym (fields-had NoLeap f refl (day-had 1 refl) k))))
+    (t, fields-is givenNoLeap t ∙ ap ofFields (fields-of-instant NoLeap f t (sym (fields-had NoLeap f refl (day-had 1 refl) k))))
 
 -- no instant shows a field of the time of day past its bound
 module _ (field : Fields → ℕ) (bound : ℕ) (below : (d : Date) (s : ℕ) → s < 86400000000 → field (fieldsAt d s) < bound) where
   none-past : (n : ℕ) → ltb n bound ≡ false → NoInstant field n
-  none-past n e c t f h k =
-      let v = shown c t f (fields-shown (fieldsAnswer c t) f (sym (fields-is c t) ∙ h)) in
+  none-past n e g t f h k =
+      let c = g .calendar in
+      let v = shown c t f (fields-shown (fieldsAnswer c t) f (sym (fields-is g t) ∙ h)) in
       let l = below (dateOf c (dayOf t)) (timeOf t) (time-small t) in
       let is : field (fieldsAt (dateOf c (dayOf t)) (timeOf t)) ≡ n = ap field (v .is) ∙ k in
       omega (arith, l, is, ltb-false n bound e)
@@ -141,8 +144,8 @@ module _ (f : Fields) where
   allPossible = isClock f && isPossible (f .month) (f .day)
 
   -- a field of the time of day that no instant shows is past its bound
-  shown-by : (field : Fields → ℕ) (g : Fields) (b : Bool) → NoInstant field (field g) → (b ≡ true → (t : ℤ) × (uppinaloFieldsOf (calendarCode NoLeap) t ≡ record { number = 0; fields = g })) → b ≡ false
-  shown-by field g b none had = to-false b (λ e. let w = had e in none NoLeap (w .0) g (w .1) refl)
+  shown-by : (field : Fields → ℕ) (g : Fields) (b : Bool) → NoInstant field (field g) → (b ≡ true → (t : ℤ) × (uppinaloFieldsOf (calendarCode NoLeap) firstCutover t ≡ record { number = 0; fields = g })) → b ≡ false
+  shown-by field g b none had = to-false b (λ e. let w = had e in none givenNoLeap (w .0) g (w .1) refl)
 
   fields-told : (allPossible ≡ false) ↔ ImpossibleFields f
   fields-told = (go (ltb (f .hour) 24) (ltb (f .minute) 60) (ltb (f .second) 60) (ltb (f .microsecond) 1000000) refl refl refl refl, back)
@@ -184,24 +187,27 @@ module _ (w : WrittenDate) where
 
 -- ---- the calls
 
-date-why : (c : Calendar) (x : Date) → inYears (x .year) ≡ true → WhyRefused (ImpossibleDate x) c x (uppinaloDayOfDate (calendarCode c) x .number)
-date-why c x h =
-    why (ImpossibleDate x) true c x (uppinaloDayOfDate (calendarCode c) x .number) (date-told x) h (λ r e. number-is (DayAnswer.Refused r) e)
+date-why : (g : GivenCalendar) (x : Date) → inYears (x .year) ≡ true → WhyRefused (ImpossibleDate x) (g .calendar) x (uppinaloDayOfDate (calendarCode (g .calendar)) (g .cutover) x .number)
+date-why g x h =
+    why (ImpossibleDate x) true c x (uppinaloDayOfDate (calendarCode c) (g .cutover) x .number) (date-told x) h (λ r e. number-is (DayAnswer.Refused r) e)
     (λ e. let k = number-is (DayAnswer.Is (dayNumber c x)) e in ((λ j. omega (arith, k, j)), (λ j. omega (arith, k, j)), λ j. omega (arith, k, j)))
   where
-    number-is : (a : DayAnswer) → a ≡ dayWith true c x → uppinaloDayOfDate (calendarCode c) x .number ≡ ofDay a .number
-    number-is a e = ap (λ (k : UppinaloDayAnswer). k .number) (day-is c x) ∙ ap (λ (k : DayAnswer). ofDay k .number) (sym e)
+    c : Calendar
+    c = g .calendar
 
-fields-why : (a : Axis) (f : Fields) → inRange (a .calendar) (a .reference) ≡ true → inYears (f .year) ≡ true → WhyRefused (ImpossibleFields f) (a .calendar) (dateIn f) (uppinaloWriteFields (axisCode a) f .number)
+    number-is : (a : DayAnswer) → a ≡ dayWith true c x → uppinaloDayOfDate (calendarCode c) (g .cutover) x .number ≡ ofDay a .number
+    number-is a e = ap (λ (k : UppinaloDayAnswer). k .number) (day-is g x) ∙ ap (λ (k : DayAnswer). ofDay k .number) (sym e)
+
+fields-why : (a : GivenAxis) (f : Fields) → inRange (a .calendar) (a .reference) ≡ true → inYears (f .year) ≡ true → WhyRefused (ImpossibleFields f) (a .calendar) (dateIn f) (uppinaloWriteFields (axisCodes a) f .number)
 fields-why a f g h =
-    why (ImpossibleFields f) (isClock f) (a .calendar) (dateIn f) (uppinaloWriteFields (axisCode a) f .number) (fields-told f) h
+    why (ImpossibleFields f) (isClock f) (a .calendar) (dateIn f) (uppinaloWriteFields (axisCodes a) f .number) (fields-told f) h
     (λ r e. ap (λ (k : UppinaloOffsetAnswer). k .number) (refused-fields a g f r (sym (refused-as-date true (a .calendar) f r e))))
     (λ e. written (answered (isClock f) (a .calendar) (dateIn f) (dayNumber (a .calendar) (dateIn f)) e))
   where
-    written : Numbered (isClock f) (a .calendar) (dateIn f) (dayNumber (a .calendar) (dateIn f)) → Other (uppinaloWriteFields (axisCode a) f .number)
+    written : Numbered (isClock f) (a .calendar) (dateIn f) (dayNumber (a .calendar) (dateIn f)) → Other (uppinaloWriteFields (axisCodes a) f .number)
     written n =
         let w = fields-written a g f (record { year = h; there = n .there; clock = n .beside }) in
-        let no : (k : ℕ) → (k ≡ 6 → ⊥) → (k ≡ 0 → ⊥) → uppinaloWriteFields (axisCode a) f .number ≡ k → ⊥ = λ k p q j. q (sym j ∙ w .written (λ s. p (sym j ∙ s)) .0) in
+        let no : (k : ℕ) → (k ≡ 6 → ⊥) → (k ≡ 0 → ⊥) → uppinaloWriteFields (axisCodes a) f .number ≡ k → ⊥ = λ k p q j. q (sym j ∙ w .written (λ s. p (sym j ∙ s)) .0) in
         (no 4 (λ j. omega (arith, j)) (λ j. omega (arith, j)), no 12 (λ j. omega (arith, j)) (λ j. omega (arith, j)), no 13 (λ j. omega (arith, j)) (λ j. omega (arith, j)))
 
 -- a text whose number is that of the instant of its date
@@ -223,16 +229,16 @@ module _ (c : Calendar) (w : WrittenDate) (number : InstantAnswer → ℕ) (of-r
       ranged-other true = let k = of-instant at in ((λ j. omega (arith, k, j)), (λ j. omega (arith, k, j)), λ j. omega (arith, k, j))
       ranged-other false = let k = of-refused Refusal.OutOfRange in ((λ j. omega (arith, k, j)), (λ j. omega (arith, k, j)), λ j. omega (arith, k, j))
 
-module _ (name text : List ℕ) (c : Calendar) (l : length text ≤ 128) (n : calendarOf name ≡ some c) where
-  units-why : (u : Units) → Derives units text u → WhyRefused (ImpossibleWritten (u .reference)) c (dateIn (localFields (u .reference))) (uppinaloReadUnits name text .number)
+module _ (name : List ℕ) (cutover : Date) (text : List ℕ) (c : Calendar) (l : length text ≤ 128) (n : namedCalendar name cutover ≡ CalendarAnswer.Is c) where
+  units-why : (u : Units) → Derives units text u → WhyRefused (ImpossibleWritten (u .reference)) c (dateIn (localFields (u .reference))) (uppinaloReadUnits name cutover text .number)
   units-why u d =
-      subst (WhyRefused (ImpossibleWritten (u .reference)) c (dateIn (localFields (u .reference)))) (sym (ap (λ (a : UppinaloAxisAnswer). a .number) (texts name text c l n .units-read u d)))
-      (written-why c (u .reference) (λ (a : InstantAnswer). ofAxis (axisAt c u a) .number) (λ r. refl) (λ t. refl) (let q = date-at-end text u d in year-derived (q .0) (u .reference) (q .1)))
+      subst (WhyRefused (ImpossibleWritten (u .reference)) c (dateIn (localFields (u .reference)))) (sym (ap (λ (a : UppinaloAxisAnswer). a .number) (texts name cutover text c l n .units-read u d)))
+      (written-why c (u .reference) (λ (a : InstantAnswer). ofAxis (axisAt c u a) cutover .number) (λ r. refl) (λ t. refl) (let q = date-at-end text u d in year-derived (q .0) (u .reference) (q .1)))
 
-  iso-why : (w : WrittenDate) → Derives dateRule text w → WhyRefused (ImpossibleWritten w) c (dateIn (localFields w)) (uppinaloReadIso name text .number)
+  iso-why : (w : WrittenDate) → Derives dateRule text w → WhyRefused (ImpossibleWritten w) c (dateIn (localFields w)) (uppinaloReadIso name cutover text .number)
   iso-why w d =
-      subst (WhyRefused (ImpossibleWritten w) c (dateIn (localFields w))) (sym (ap (λ (a : UppinaloReading). a .number) (texts name text c l n .iso-read w d)))
+      subst (WhyRefused (ImpossibleWritten w) c (dateIn (localFields w))) (sym (ap (λ (a : UppinaloReading). a .number) (texts name cutover text c l n .iso-read w d)))
       (written-why c w (λ (a : InstantAnswer). ofInstant a .number) (λ r. refl) (λ t. refl) (year-derived text w d))
 
 pub refused-dates : RefusedDates
-refused-dates = record { day-of-date = date-why; write-fields = fields-why; read-units = λ name text c u l n d. units-why name text c l n u d; read-iso = λ name text c w l n d. iso-why name text c l n w d }
+refused-dates = record { day-of-date = date-why; write-fields = fields-why; read-units = λ name cutover text c u l n d. units-why name cutover text c l n u d; read-iso = λ name cutover text c w l n d. iso-why name cutover text c l n w d }

@@ -31,8 +31,8 @@ use Rattle.datetime64_runs.specs.Runs.{typeNamed, readCheck, instantsOver, read
 use Rattle.tt2000.specs.Tt2000.{readTt2000, writeTt2000}
 use Rattle.tt2000.specs.declared.UtcAnswer.{UtcAnswer}
 use Rattle.tt2000.specs.declared.Tt2000Answer.{Tt2000Answer}
-use Rattle.codes.specs.Codes.{codedCalendar, codedAxis}
-use Rattle.codes.specs.declared.CodedCalendar.{CodedCalendar}
+use Rattle.cutover.specs.declared.CalendarAnswer.{CalendarAnswer}
+use Rattle.codes.specs.Codes.{calendarGiven, codedAxis}
 use Rattle.codes.specs.declared.CodedAxis.{CodedAxis}
 use Rattle.uppinalo.specs.Days.{ofDate, ofDay, ofFields, dateByCode, dayByCode, fieldsByCode}
 use Rattle.uppinalo.specs.Offsets.{ofReading, readOn, ofOffset, writeOn}
@@ -74,9 +74,9 @@ of-instant : (a : InstantAnswer) → ReadingOrZero (ofInstant a)
 of-instant (InstantAnswer.Is t) h = absurd (h refl)
 of-instant (InstantAnswer.Refused r) h = (refl, refl, refl)
 
-of-axis : (a : AxisAnswer) → AxisOrZero (ofAxis a)
-of-axis (AxisAnswer.Is a) h = absurd (h refl)
-of-axis (AxisAnswer.Refused r) h = refl
+of-axis : (a : AxisAnswer) (cutover : Date) → AxisOrZero (ofAxis a cutover)
+of-axis (AxisAnswer.Is a) cutover h = absurd (h refl)
+of-axis (AxisAnswer.Refused r) cutover h = refl
 
 of-check : {A : Type 0} (k : Check) (n r : ℕ) (written kept : List A) → RunOrZero (checkAnswer k n r) kept (chosen k written kept)
 of-check Check.AllRead n r written kept h = absurd (h refl)
@@ -94,22 +94,22 @@ of-iso : (a : FieldsAnswer) (room : List ℕ) → LengthOrZero (ofLength (isoLen
 of-iso (FieldsAnswer.Is f) room = of-room (textOf f) room
 of-iso (FieldsAnswer.Refused r) room = λ h. (refl, refl)
 
-date-zero : (k : CodedCalendar) (n : ℤ) → DateOrZero (dateByCode k n)
-date-zero (CodedCalendar.Is c) n = of-date (dateAnswer c n)
-date-zero CodedCalendar.Unknown n = λ h. refl
+date-zero : (k : CalendarAnswer) (n : ℤ) → DateOrZero (dateByCode k n)
+date-zero (CalendarAnswer.Is c) n = of-date (dateAnswer c n)
+date-zero (CalendarAnswer.Refused r) n = λ h. refl
 
-day-zero : (k : CodedCalendar) (x : Date) → DayOrZero (dayByCode k x)
-day-zero (CodedCalendar.Is c) x = of-day (dayAnswer c x)
-day-zero CodedCalendar.Unknown x = λ h. refl
+day-zero : (k : CalendarAnswer) (x : Date) → DayOrZero (dayByCode k x)
+day-zero (CalendarAnswer.Is c) x = of-day (dayAnswer c x)
+day-zero (CalendarAnswer.Refused r) x = λ h. refl
 
-fields-zero : (k : CodedCalendar) (t : ℤ) → FieldsOrZero (fieldsByCode k t)
-fields-zero (CodedCalendar.Is c) t = of-fields (fieldsAnswer c t)
-fields-zero CodedCalendar.Unknown t = λ h. refl
+fields-zero : (k : CalendarAnswer) (t : ℤ) → FieldsOrZero (fieldsByCode k t)
+fields-zero (CalendarAnswer.Is c) t = of-fields (fieldsAnswer c t)
+fields-zero (CalendarAnswer.Refused r) t = λ h. refl
 
-length-zero : (k : CodedCalendar) (t : ℤ) (room : List ℕ) → LengthOrZero (lengthByCode k t room) room (roomByCode k t room)
+length-zero : (k : CalendarAnswer) (t : ℤ) (room : List ℕ) → LengthOrZero (lengthByCode k t room) room (roomByCode k t room)
 unfolding writeIso roomIso
-length-zero (CodedCalendar.Is c) t room = of-iso (fieldsAnswer c t) room
-length-zero CodedCalendar.Unknown t room = λ h. (refl, refl)
+length-zero (CalendarAnswer.Is c) t room = of-iso (fieldsAnswer c t) room
+length-zero (CalendarAnswer.Refused r) t room = λ h. (refl, refl)
 
 reading-zero : (k : CodedAxis) (read : Axis → Reading) (back : Axis → ℕ) → ReadingOrZero (readOn k read back)
 reading-zero (CodedAxis.Is a) read back = of-reading (read a) (back a)
@@ -132,19 +132,19 @@ write-zero k xs room = of-check (writeCheck k xs (length room)) (length xs) 0 (r
 pub refusals : ZeroBesideRefusal
 refusals =
     record {
-      date-of-day = λ calendar. date-zero (codedCalendar calendar);
-      day-of-date = λ calendar. day-zero (codedCalendar calendar);
-      fields-of = λ calendar. fields-zero (codedCalendar calendar);
+      date-of-day = λ calendar cutover. date-zero (calendarGiven calendar cutover);
+      day-of-date = λ calendar cutover. day-zero (calendarGiven calendar cutover);
+      fields-of = λ calendar cutover. fields-zero (calendarGiven calendar cutover);
       read-whole = λ a n. reading-zero (codedAxis a) (λ x. readWholeOn x n) (λ x. wholeBack x n);
       read-double = λ a y. reading-zero (codedAxis a) (λ x. readDoubleOn x y) (λ x. doubleBack x y);
       write-instant = λ a t. offset-zero (codedAxis a) (λ x. writeInstantOn x t);
       write-fields = λ a f. offset-zero (codedAxis a) (λ x. writeFieldsOn x f);
       read-wholes = λ a. run-zero (codedAxis a) readWholeOn;
       read-doubles = λ a. run-zero (codedAxis a) readDoubleOn;
-      read-iso = λ name text. of-instant (readIso name text);
-      read-units = λ name text. of-axis (readUnits name text);
-      end-units = λ s name. end-outcome s name AxisOrZero (λ r _. refl) (λ text. of-axis (readUnits name text));
-      write-iso = λ calendar. length-zero (codedCalendar calendar);
+      read-iso = λ name cutover text. of-instant (readIso name cutover text);
+      read-units = λ name cutover text. of-axis (readUnits name cutover text) cutover;
+      end-units = λ s name cutover. end-outcome s name cutover AxisOrZero (λ r _. refl) (λ text. of-axis (readUnits name cutover text) cutover);
+      write-iso = λ calendar cutover. length-zero (calendarGiven calendar cutover);
       read-datetime64 = λ text. read-zero (typeNamed text);
       write-datetime64 = λ text. write-zero (typeNamed text);
       read-tt2000 = λ s t. of-utc (readTt2000 s t);

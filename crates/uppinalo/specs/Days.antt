@@ -3,7 +3,6 @@
 use Prim.Native.Nat.{ℕ}
 use lib.IntN.{ℤ, pos}
 use Rattle.refusal.specs.Number.{numberOf}
-use Rattle.refusal.specs.declared.Refusal.the-variants.{UnknownCalendar}
 use Rattle.refusal.specs.declared.Refusal.{Refusal}
 use Rattle.calendar.specs.Answers.{dateAnswer, dayAnswer}
 use Rattle.calendar.specs.declared.Date.{Date}
@@ -11,8 +10,8 @@ use Rattle.calendar.specs.declared.DateAnswer.{DateAnswer}
 use Rattle.calendar.specs.declared.DayAnswer.{DayAnswer}
 use Rattle.instant.specs.Instant.{fieldsAnswer}
 use Rattle.instant.specs.declared.FieldsAnswer.{FieldsAnswer}
-use Rattle.codes.specs.Codes.{codedCalendar}
-use Rattle.codes.specs.declared.CodedCalendar.{CodedCalendar}
+use Rattle.cutover.specs.declared.CalendarAnswer.{CalendarAnswer}
+use Rattle.codes.specs.Codes.{calendarGiven}
 use Rattle.uppinalo.specs.declared.days.UppinaloDateAnswer.{UppinaloDateAnswer}
 use Rattle.uppinalo.specs.declared.days.UppinaloDayAnswer.{UppinaloDayAnswer}
 use Rattle.uppinalo.specs.declared.days.UppinaloFieldsAnswer.{UppinaloFieldsAnswer}
@@ -26,12 +25,12 @@ abbrev pub ofDate : DateAnswer → UppinaloDateAnswer
 ofDate (DateAnswer.Is d) = record { number = 0; date = d }
 ofDate (DateAnswer.Refused r) = noDate r
 
-abbrev pub dateByCode : CodedCalendar → ℤ → UppinaloDateAnswer
-dateByCode (CodedCalendar.Is c) n = ofDate (dateAnswer c n)
-dateByCode CodedCalendar.Unknown n = noDate UnknownCalendar
+abbrev pub dateByCode : CalendarAnswer → ℤ → UppinaloDateAnswer
+dateByCode (CalendarAnswer.Is c) n = ofDate (dateAnswer c n)
+dateByCode (CalendarAnswer.Refused r) n = noDate r
 
-abbrev pub uppinaloDateOfDay : ℕ → ℤ → UppinaloDateAnswer
-uppinaloDateOfDay calendar n = dateByCode (codedCalendar calendar) n
+abbrev pub uppinaloDateOfDay : ℕ → Date → ℤ → UppinaloDateAnswer
+uppinaloDateOfDay calendar cutover n = dateByCode (calendarGiven calendar cutover) n
 
 -- ---- a day number
 
@@ -42,12 +41,12 @@ abbrev pub ofDay : DayAnswer → UppinaloDayAnswer
 ofDay (DayAnswer.Is n) = record { number = 0; day = n }
 ofDay (DayAnswer.Refused r) = noDay r
 
-abbrev pub dayByCode : CodedCalendar → Date → UppinaloDayAnswer
-dayByCode (CodedCalendar.Is c) x = ofDay (dayAnswer c x)
-dayByCode CodedCalendar.Unknown x = noDay UnknownCalendar
+abbrev pub dayByCode : CalendarAnswer → Date → UppinaloDayAnswer
+dayByCode (CalendarAnswer.Is c) x = ofDay (dayAnswer c x)
+dayByCode (CalendarAnswer.Refused r) x = noDay r
 
-abbrev pub uppinaloDayOfDate : ℕ → Date → UppinaloDayAnswer
-uppinaloDayOfDate calendar x = dayByCode (codedCalendar calendar) x
+abbrev pub uppinaloDayOfDate : ℕ → Date → Date → UppinaloDayAnswer
+uppinaloDayOfDate calendar cutover x = dayByCode (calendarGiven calendar cutover) x
 
 -- ---- fields
 
@@ -58,9 +57,9 @@ abbrev pub ofFields : FieldsAnswer → UppinaloFieldsAnswer
 ofFields (FieldsAnswer.Is f) = record { number = 0; fields = f }
 ofFields (FieldsAnswer.Refused r) = noFields r
 
-abbrev pub fieldsByCode : CodedCalendar → ℤ → UppinaloFieldsAnswer
-fieldsByCode (CodedCalendar.Is c) t = ofFields (fieldsAnswer c t)
-fieldsByCode CodedCalendar.Unknown t = noFields UnknownCalendar
+abbrev pub fieldsByCode : CalendarAnswer → ℤ → UppinaloFieldsAnswer
+fieldsByCode (CalendarAnswer.Is c) t = ofFields (fieldsAnswer c t)
+fieldsByCode (CalendarAnswer.Refused r) t = noFields r
 
-abbrev pub uppinaloFieldsOf : ℕ → ℤ → UppinaloFieldsAnswer
-uppinaloFieldsOf calendar t = fieldsByCode (codedCalendar calendar) t
+abbrev pub uppinaloFieldsOf : ℕ → Date → ℤ → UppinaloFieldsAnswer
+uppinaloFieldsOf calendar cutover t = fieldsByCode (calendarGiven calendar cutover) t

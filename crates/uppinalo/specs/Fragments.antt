@@ -6,6 +6,7 @@ use lib.Dec.{ltb}
 use lib.ListN.{take}
 use Rattle.refusal.specs.Number.{numberOf}
 use Rattle.refusal.specs.declared.Refusal.the-variants.{TextTooLong, NotOpen}
+use Rattle.calendar.specs.declared.Date.{Date}
 use Rattle.units_fragments.specs.Fragments.{freshState, isOpen, afterFragment, afterEnd}
 use Rattle.units_fragments.specs.declared.UnitsState.{UnitsState}
 use Rattle.uppinalo.specs.Texts.{noAxis, uppinaloReadUnits}
@@ -21,11 +22,11 @@ abbrev pub uppinaloAddUnitsState : UnitsState → List ℕ → UnitsState
 uppinaloAddUnitsState s fragment = afterFragment s fragment
 
 -- what the bytes so far say; a text of more than 128 bytes is too long, whatever its bytes are
-abbrev pub readSoFar : UnitsState → List ℕ → UppinaloAxisAnswer
-readSoFar s calendar = cond (ltb 128 (s .count)) (noAxis TextTooLong) (uppinaloReadUnits calendar (take (s .count) (s .bytes)))
+abbrev pub readSoFar : UnitsState → List ℕ → Date → UppinaloAxisAnswer
+readSoFar s calendar cutover = cond (ltb 128 (s .count)) (noAxis TextTooLong) (uppinaloReadUnits calendar cutover (take (s .count) (s .bytes)))
 
-abbrev pub uppinaloEndUnits : UnitsState → List ℕ → UppinaloAxisAnswer
-uppinaloEndUnits s calendar = cond (isOpen s) (readSoFar s calendar) (noAxis NotOpen)
+abbrev pub uppinaloEndUnits : UnitsState → List ℕ → Date → UppinaloAxisAnswer
+uppinaloEndUnits s calendar cutover = cond (isOpen s) (readSoFar s calendar cutover) (noAxis NotOpen)
 
-abbrev pub uppinaloEndUnitsState : UnitsState → List ℕ → UnitsState
-uppinaloEndUnitsState s calendar = afterEnd s
+abbrev pub uppinaloEndUnitsState : UnitsState → List ℕ → Date → UnitsState
+uppinaloEndUnitsState s calendar cutover = afterEnd s

@@ -5,6 +5,8 @@ pub mod Datetime64
 pub mod Utc
 pub mod Offsets
 pub mod Runs
+pub mod Given
+pub mod Cutovers
 pub mod Arrays
 pub mod DaysBack
 pub mod RefusedDates

@@ -6,15 +6,16 @@ use Prim.Native.Nat.{ℕ}
 use lib.IntN.{ℤ, pos}
 use Rattle.refusal.specs.Number.{numberOf}
 use Rattle.refusal.specs.declared.Refusal.{Refusal}
-use Rattle.refusal.specs.declared.Refusal.the-variants.{UnknownCalendar}
+use Rattle.calendar.specs.Cutover.{firstCutover}
+use Rattle.calendar.specs.declared.Date.{Date}
 use Rattle.instant.specs.declared.InstantAnswer.{InstantAnswer}
 use Rattle.iso_form.specs.declared.LengthAnswer.{LengthAnswer}
 use Rattle.iso_text.specs.Iso.{readIso, writeIso, roomIso}
 use Rattle.axis_types.specs.Zero.{zeroAxis}
 use Rattle.axis_text.specs.Units.{readUnits}
 use Rattle.axis_text.specs.declared.AxisAnswer.{AxisAnswer}
-use Rattle.codes.specs.Codes.{codedCalendar, axisCode}
-use Rattle.codes.specs.declared.CodedCalendar.{CodedCalendar}
+use Rattle.cutover.specs.declared.CalendarAnswer.{CalendarAnswer}
+use Rattle.codes.specs.Codes.{calendarGiven, axisCode}
 use Rattle.uppinalo.specs.declared.texts.UppinaloReading.{UppinaloReading}
 use Rattle.uppinalo.specs.declared.texts.UppinaloLengthAnswer.{UppinaloLengthAnswer}
 use Rattle.uppinalo.specs.declared.texts.UppinaloAxisAnswer.{UppinaloAxisAnswer}
@@ -24,19 +25,20 @@ abbrev pub ofInstant : InstantAnswer → UppinaloReading
 ofInstant (InstantAnswer.Is t) = record { number = 0; instant = t; exact = true; «days_back» = 0 }
 ofInstant (InstantAnswer.Refused r) = record { number = numberOf r; instant = pos 0; exact = false; «days_back» = 0 }
 
-abbrev pub uppinaloReadIso : List ℕ → List ℕ → UppinaloReading
-uppinaloReadIso calendar text = ofInstant (readIso calendar text)
+abbrev pub uppinaloReadIso : List ℕ → Date → List ℕ → UppinaloReading
+uppinaloReadIso calendar cutover text = ofInstant (readIso calendar cutover text)
 
--- a refusal has the zero axis beside it
+-- a refusal has the zero axis beside it, whose cutover is that of 1582
 abbrev pub noAxis : Refusal → UppinaloAxisAnswer
-noAxis r = record { number = numberOf r; axis = axisCode zeroAxis }
+noAxis r = record { number = numberOf r; axis = axisCode zeroAxis firstCutover }
 
-abbrev pub ofAxis : AxisAnswer → UppinaloAxisAnswer
-ofAxis (AxisAnswer.Is a) = record { number = 0; axis = axisCode a }
-ofAxis (AxisAnswer.Refused r) = noAxis r
+-- an axis that is read has the cutover as it was given
+abbrev pub ofAxis : AxisAnswer → Date → UppinaloAxisAnswer
+ofAxis (AxisAnswer.Is a) cutover = record { number = 0; axis = axisCode a cutover }
+ofAxis (AxisAnswer.Refused r) cutover = noAxis r
 
-abbrev pub uppinaloReadUnits : List ℕ → List ℕ → UppinaloAxisAnswer
-uppinaloReadUnits calendar text = ofAxis (readUnits calendar text)
+abbrev pub uppinaloReadUnits : List ℕ → Date → List ℕ → UppinaloAxisAnswer
+uppinaloReadUnits calendar cutover text = ofAxis (readUnits calendar cutover text) cutover
 
 abbrev pub noLength : Refusal → UppinaloLengthAnswer
 noLength r = record { number = numberOf r; length = 0 }
@@ -46,16 +48,16 @@ ofLength (LengthAnswer.Is n) = record { number = 0; length = n }
 ofLength (LengthAnswer.Refused r) = noLength r
 
 -- the answer of writing the text of an instant, and what it leaves in the room
-abbrev pub lengthByCode : CodedCalendar → ℤ → List ℕ → UppinaloLengthAnswer
-lengthByCode (CodedCalendar.Is c) t room = ofLength (writeIso c t room)
-lengthByCode CodedCalendar.Unknown t room = noLength UnknownCalendar
+abbrev pub lengthByCode : CalendarAnswer → ℤ → List ℕ → UppinaloLengthAnswer
+lengthByCode (CalendarAnswer.Is c) t room = ofLength (writeIso c t room)
+lengthByCode (CalendarAnswer.Refused r) t room = noLength r
 
-abbrev pub roomByCode : CodedCalendar → ℤ → List ℕ → List ℕ
-roomByCode (CodedCalendar.Is c) t room = roomIso c t room
-roomByCode CodedCalendar.Unknown t room = room
+abbrev pub roomByCode : CalendarAnswer → ℤ → List ℕ → List ℕ
+roomByCode (CalendarAnswer.Is c) t room = roomIso c t room
+roomByCode (CalendarAnswer.Refused r) t room = room
 
-abbrev pub uppinaloWriteIso : ℕ → ℤ → List ℕ → UppinaloLengthAnswer
-uppinaloWriteIso calendar t room = lengthByCode (codedCalendar calendar) t room
+abbrev pub uppinaloWriteIso : ℕ → Date → ℤ → List ℕ → UppinaloLengthAnswer
+uppinaloWriteIso calendar cutover t room = lengthByCode (calendarGiven calendar cutover) t room
 
-abbrev pub uppinaloWriteIsoRoom : ℕ → ℤ → List ℕ → List ℕ
-uppinaloWriteIsoRoom calendar t room = roomByCode (codedCalendar calendar) t room
+abbrev pub uppinaloWriteIsoRoom : ℕ → Date → ℤ → List ℕ → List ℕ
+uppinaloWriteIsoRoom calendar cutover t room = roomByCode (calendarGiven calendar cutover) t room

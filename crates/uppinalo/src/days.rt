@@ -1,10 +1,10 @@
-// Days and instants of a calendar.
+// Days and instants of a calendar, which `standard` is with a cutover.
 ghost use mathlib.Core.Path.{_≡_};
 ghost use Rattle.uppinalo.specs.Days.{noDate, noDay, noFields, ofDate, ofDay, ofFields, uppinaloDateOfDay, uppinaloDayOfDate, uppinaloFieldsOf};
 use calendar::Date;
 use calendar::DateAnswer;
 use calendar::DayAnswer;
-use codes::CodedCalendar;
+use cutover::CalendarAnswer;
 use instant::Fields;
 use instant::FieldsAnswer;
 use refusal::Refusal;
@@ -60,12 +60,12 @@ fn of_date(a: DateAnswer) -> UppinaloDateAnswer
 
 // The date of a day number.
 #[no_mangle]
-pub extern "C" fn uppinalo_date_of_day(calendar: u32, day: i64) -> UppinaloDateAnswer
-    ensures { λ r. ⌜ r ≡ uppinaloDateOfDay calendar day ⌝ }
+pub extern "C" fn uppinalo_date_of_day(calendar: u32, cutover: Date, day: i64) -> UppinaloDateAnswer
+    ensures { λ r. ⌜ r ≡ uppinaloDateOfDay calendar cutover day ⌝ }
 {
-    match codes::calendar_of(calendar) {
-        CodedCalendar::Unknown => return no_date(Refusal::UnknownCalendar),
-        CodedCalendar::Is(c) => return of_date(calendar::date_of_day(c, day)),
+    match codes::calendar_given(calendar, cutover) {
+        CalendarAnswer::Refused(r) => return no_date(r),
+        CalendarAnswer::Is(c) => return of_date(calendar::date_of_day(c, day)),
     }
 }
 
@@ -89,12 +89,16 @@ fn of_day(a: DayAnswer) -> UppinaloDayAnswer
 
 // The day number of a date.
 #[no_mangle]
-pub extern "C" fn uppinalo_day_of_date(calendar: u32, date: Date) -> UppinaloDayAnswer
-    ensures { λ r. ⌜ r ≡ uppinaloDayOfDate calendar date ⌝ }
+pub extern "C" fn uppinalo_day_of_date(
+    calendar: u32,
+    cutover: Date,
+    date: Date,
+) -> UppinaloDayAnswer
+    ensures { λ r. ⌜ r ≡ uppinaloDayOfDate calendar cutover date ⌝ }
 {
-    match codes::calendar_of(calendar) {
-        CodedCalendar::Unknown => return no_day(Refusal::UnknownCalendar),
-        CodedCalendar::Is(c) => return of_day(calendar::day_of_date(c, date)),
+    match codes::calendar_given(calendar, cutover) {
+        CalendarAnswer::Refused(r) => return no_day(r),
+        CalendarAnswer::Is(c) => return of_day(calendar::day_of_date(c, date)),
     }
 }
 
@@ -139,11 +143,15 @@ fn of_fields(a: FieldsAnswer) -> UppinaloFieldsAnswer
 
 // The fields of an instant.
 #[no_mangle]
-pub extern "C" fn uppinalo_fields_of(calendar: u32, instant: i64) -> UppinaloFieldsAnswer
-    ensures { λ r. ⌜ r ≡ uppinaloFieldsOf calendar instant ⌝ }
+pub extern "C" fn uppinalo_fields_of(
+    calendar: u32,
+    cutover: Date,
+    instant: i64,
+) -> UppinaloFieldsAnswer
+    ensures { λ r. ⌜ r ≡ uppinaloFieldsOf calendar cutover instant ⌝ }
 {
-    match codes::calendar_of(calendar) {
-        CodedCalendar::Unknown => return no_fields(Refusal::UnknownCalendar),
-        CodedCalendar::Is(c) => return of_fields(instant::fields_of(c, instant)),
+    match codes::calendar_given(calendar, cutover) {
+        CalendarAnswer::Refused(r) => return no_fields(r),
+        CalendarAnswer::Is(c) => return of_fields(instant::fields_of(c, instant)),
     }
 }

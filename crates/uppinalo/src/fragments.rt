@@ -5,6 +5,7 @@ ghost use Rattle.uppinalo.specs.Fragments.{uppinaloStartUnits, uppinaloA
 use crate::texts::UppinaloAxisAnswer;
 use crate::texts::no_axis;
 use crate::texts::uppinalo_read_units;
+use calendar::Date;
 use refusal::Refusal;
 use units_fragments::UnitsState;
 
@@ -37,42 +38,46 @@ pub extern "C" fn uppinalo_add_units(state: &mut UnitsState, fragment: &[u8]) ->
     add_answer(old, fragment)
 }
 
-// The state that the end leaves, whatever the name is.
-fn end_state(s: UnitsState, calendar: &[u8]) -> UnitsState
-    ensures { λ r. ⌜ r ≡ uppinaloEndUnitsState s (now (calendar .entry)) ⌝ }
+// The state that the end leaves, whatever the name and the cutover are.
+fn end_state(s: UnitsState, calendar: &[u8], cutover: Date) -> UnitsState
+    ensures { λ r. ⌜ r ≡ uppinaloEndUnitsState s (now (calendar .entry)) cutover ⌝ }
 {
     units_fragments::after_end(s)
 }
 
 // The axis of the bytes so far.
-fn read_so_far(s: UnitsState, calendar: &[u8]) -> UppinaloAxisAnswer
-    ensures { λ r. ⌜ r ≡ readSoFar s (now (calendar .entry)) ⌝ }
+fn read_so_far(s: UnitsState, calendar: &[u8], cutover: Date) -> UppinaloAxisAnswer
+    ensures { λ r. ⌜ r ≡ readSoFar s (now (calendar .entry)) cutover ⌝ }
 {
     if 128 < s.count {
         return no_axis(Refusal::TextTooLong);
     }
     let n = s.count as usize;
     let bytes = s.bytes;
-    uppinalo_read_units(calendar, &bytes[..n])
+    uppinalo_read_units(calendar, cutover, &bytes[..n])
 }
 
 // What the end answers.
-fn end_answer(s: UnitsState, calendar: &[u8]) -> UppinaloAxisAnswer
-    ensures { λ r. ⌜ r ≡ uppinaloEndUnits s (now (calendar .entry)) ⌝ }
+fn end_answer(s: UnitsState, calendar: &[u8], cutover: Date) -> UppinaloAxisAnswer
+    ensures { λ r. ⌜ r ≡ uppinaloEndUnits s (now (calendar .entry)) cutover ⌝ }
 {
     if units_fragments::is_open(s) {
-        return read_so_far(s, calendar);
+        return read_so_far(s, calendar, cutover);
     }
     no_axis(Refusal::NotOpen)
 }
 
-// The end: the axis of the units text, in the calendar of a name.
+// The end: the axis of the units text, in the calendar of a name with a cutover.
 #[no_mangle]
-pub extern "C" fn uppinalo_end_units(state: &mut UnitsState, calendar: &[u8]) -> UppinaloAxisAnswer
-    ensures answered { λ r. ⌜ r ≡ uppinaloEndUnits (now (state .entry)) (now (calendar .entry)) ⌝ }
-    ensures written { λ _. ⌜ now (state .exit) ≡ uppinaloEndUnitsState (now (state .entry)) (now (calendar .entry)) ⌝ }
+pub extern "C" fn uppinalo_end_units(
+    state: &mut UnitsState,
+    calendar: &[u8],
+    cutover: Date,
+) -> UppinaloAxisAnswer
+    ensures answered { λ r. ⌜ r ≡ uppinaloEndUnits (now (state .entry)) (now (calendar .entry)) cutover ⌝ }
+    ensures written { λ _. ⌜ now (state .exit) ≡ uppinaloEndUnitsState (now (state .entry)) (now (calendar .entry)) cutover ⌝ }
 {
     let old = *state;
-    *state = end_state(old, calendar);
-    end_answer(old, calendar)
+    *state = end_state(old, calendar, cutover);
+    end_answer(old, calendar, cutover)
 }

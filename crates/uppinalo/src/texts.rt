@@ -2,8 +2,9 @@
 ghost use mathlib.Core.Path.{_≡_};
 ghost use Rattle.uppinalo.specs.Texts.{noLength, ofLength, uppinaloWriteIso, uppinaloWriteIsoRoom, ofInstant, uppinaloReadIso, noAxis, ofAxis, uppinaloReadUnits};
 use axis_text::AxisAnswer;
-use codes::CodedCalendar;
+use calendar::Date;
 use codes::UppinaloAxis;
+use cutover::CalendarAnswer;
 use instant::InstantAnswer;
 use iso_form::LengthAnswer;
 use refusal::Refusal;
@@ -47,12 +48,12 @@ fn of_instant(a: InstantAnswer) -> UppinaloReading
     }
 }
 
-// The instant of an ISO text, in the calendar of a name. What is read is exact, and no day is stepped back.
+// The instant of an ISO text, in the calendar of a name with a cutover. What is read is exact, and no day is stepped back.
 #[no_mangle]
-pub extern "C" fn uppinalo_read_iso(calendar: &[u8], text: &[u8]) -> UppinaloReading
-    ensures { λ r. ⌜ r ≡ uppinaloReadIso (now (calendar .entry)) (now (text .entry)) ⌝ }
+pub extern "C" fn uppinalo_read_iso(calendar: &[u8], cutover: Date, text: &[u8]) -> UppinaloReading
+    ensures { λ r. ⌜ r ≡ uppinaloReadIso (now (calendar .entry)) cutover (now (text .entry)) ⌝ }
 {
-    of_instant(iso_text::read_iso(calendar, text))
+    of_instant(iso_text::read_iso(calendar, cutover, text))
 }
 
 pub(crate) fn no_axis(r: Refusal) -> UppinaloAxisAnswer
@@ -63,6 +64,7 @@ pub(crate) fn no_axis(r: Refusal) -> UppinaloAxisAnswer
         period: 0,
         mode: 0,
         reference: 0,
+        cutover: cutover::first_cutover(),
     };
     UppinaloAxisAnswer {
         number: refusal::number(r),
@@ -70,24 +72,29 @@ pub(crate) fn no_axis(r: Refusal) -> UppinaloAxisAnswer
     }
 }
 
-fn of_axis(a: AxisAnswer) -> UppinaloAxisAnswer
-    ensures { λ r. ⌜ r ≡ ofAxis a ⌝ }
+// The axis that was read, with the cutover as it was given.
+fn of_axis(a: AxisAnswer, cutover: Date) -> UppinaloAxisAnswer
+    ensures { λ r. ⌜ r ≡ ofAxis a cutover ⌝ }
 {
     match a {
         AxisAnswer::Is(x) => {
-            let axis = codes::axis_code(x);
+            let axis = codes::axis_code(x, cutover);
             return UppinaloAxisAnswer { number: 0, axis };
         }
         AxisAnswer::Refused(r) => return no_axis(r),
     }
 }
 
-// The axis of a units text, in the calendar of a name.
+// The axis of a units text, in the calendar of a name with a cutover.
 #[no_mangle]
-pub extern "C" fn uppinalo_read_units(calendar: &[u8], text: &[u8]) -> UppinaloAxisAnswer
-    ensures { λ r. ⌜ r ≡ uppinaloReadUnits (now (calendar .entry)) (now (text .entry)) ⌝ }
+pub extern "C" fn uppinalo_read_units(
+    calendar: &[u8],
+    cutover: Date,
+    text: &[u8],
+) -> UppinaloAxisAnswer
+    ensures { λ r. ⌜ r ≡ uppinaloReadUnits (now (calendar .entry)) cutover (now (text .entry)) ⌝ }
 {
-    of_axis(axis_text::read_units(calendar, text))
+    of_axis(axis_text::read_units(calendar, cutover, text), cutover)
 }
 
 fn no_length(r: Refusal) -> UppinaloLengthAnswer
@@ -112,14 +119,15 @@ fn of_length(a: LengthAnswer) -> UppinaloLengthAnswer
 #[no_mangle]
 pub extern "C" fn uppinalo_write_iso(
     calendar: u32,
+    cutover: Date,
     instant: i64,
     room: &mut [u8],
 ) -> UppinaloLengthAnswer
-    ensures { λ r. ⌜ r ≡ uppinaloWriteIso calendar instant (now (room .entry)) ⌝ }
-    ensures { λ _. ⌜ now (room .exit) ≡ uppinaloWriteIsoRoom calendar instant (now (room .entry)) ⌝ }
+    ensures { λ r. ⌜ r ≡ uppinaloWriteIso calendar cutover instant (now (room .entry)) ⌝ }
+    ensures { λ _. ⌜ now (room .exit) ≡ uppinaloWriteIsoRoom calendar cutover instant (now (room .entry)) ⌝ }
 {
-    match codes::calendar_of(calendar) {
-        CodedCalendar::Unknown => return no_length(Refusal::UnknownCalendar),
-        CodedCalendar::Is(c) => return of_length(iso_text::write_iso(c, instant, room)),
+    match codes::calendar_given(calendar, cutover) {
+        CalendarAnswer::Refused(r) => return no_length(r),
+        CalendarAnswer::Is(c) => return of_length(iso_text::write_iso(c, instant, room)),
     }
 }

@@ -144,7 +144,7 @@ fn print_calendar(c: Calendar, name: &[u8]) {
 }
 
 fn main() {
-    print_calendar(Calendar::Standard, b"standard");
+    print_calendar(Calendar::Standard(0), b"standard");
     print_calendar(Calendar::ProlepticGregorian, b"proleptic_gregorian");
     print_calendar(Calendar::Julian, b"julian");
     print_calendar(Calendar::NoLeap, b"noleap");

@@ -3,20 +3,30 @@
 use std::fmt::{Display, Formatter, Result};
 
 #[repr(C)]
-#[derive(Clone, Copy, PartialEq, Eq, Debug, Default)]
+#[derive(Clone, Copy, PartialEq, Eq, Hash, Debug, Default)]
+pub struct Date {
+    pub year: i64,
+    pub month: u32,
+    pub day: u32,
+}
+
+pub const CUTOVER_1582: Date = Date { year: 1582, month: 10, day: 15 };
+
+#[repr(C)]
+#[derive(Clone, Copy, PartialEq, Eq, Debug)]
 pub struct Axis {
     pub calendar: u32,
     pub period: u32,
     pub mode: u32,
     pub reference: i64,
+    pub cutover: Date,
 }
 
-#[repr(C)]
-#[derive(Clone, Copy, PartialEq, Eq, Debug, Default)]
-pub struct Date {
-    pub year: i64,
-    pub month: u32,
-    pub day: u32,
+/// The zero axis, which is that of a refusal.
+impl Default for Axis {
+    fn default() -> Axis {
+        Axis { calendar: 0, period: 0, mode: 0, reference: 0, cutover: CUTOVER_1582 }
+    }
 }
 
 #[repr(C)]

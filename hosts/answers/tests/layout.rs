@@ -5,10 +5,11 @@ use std::mem::offset_of;
 
 #[test]
 fn arguments() {
-    assert_eq!(size_of::<Axis>(), 24);
-    assert_eq!([offset_of!(Axis, period), offset_of!(Axis, mode), offset_of!(Axis, reference)], [4, 8, 16]);
     assert_eq!(size_of::<Date>(), 16);
     assert_eq!([offset_of!(Date, month), offset_of!(Date, day)], [8, 12]);
+    assert_eq!(size_of::<Axis>(), 40);
+    assert_eq!([offset_of!(Axis, period), offset_of!(Axis, mode), offset_of!(Axis, reference)], [4, 8, 16]);
+    assert_eq!(offset_of!(Axis, cutover), 24);
     assert_eq!(size_of::<Fields>(), 32);
     assert_eq!([offset_of!(Fields, month), offset_of!(Fields, day), offset_of!(Fields, hour)], [8, 12, 16]);
     assert_eq!([offset_of!(Fields, minute), offset_of!(Fields, second), offset_of!(Fields, microsecond)], [20, 24, 28]);
@@ -24,7 +25,7 @@ fn arguments() {
 
 #[test]
 fn results() {
-    assert_eq!((size_of::<AxisAnswer>(), offset_of!(AxisAnswer, axis)), (32, 8));
+    assert_eq!((size_of::<AxisAnswer>(), offset_of!(AxisAnswer, axis)), (48, 8));
     assert_eq!(size_of::<Reading>(), 24);
     assert_eq!([offset_of!(Reading, instant), offset_of!(Reading, exact), offset_of!(Reading, days_back)], [8, 16, 20]);
     assert_eq!((size_of::<OffsetAnswer>(), offset_of!(OffsetAnswer, offset)), (16, 8));
@@ -39,6 +40,12 @@ fn results() {
     );
     assert_eq!((size_of::<UtcFieldsAnswer>(), offset_of!(UtcFieldsAnswer, fields)), (40, 8));
     assert_eq!((size_of::<Tt2000Answer>(), offset_of!(Tt2000Answer, tt2000)), (16, 8));
+}
+
+#[test]
+fn zero_axis() {
+    let zero = Axis { calendar: 0, period: 0, mode: 0, reference: 0, cutover: Date { year: 1582, month: 10, day: 15 } };
+    assert_eq!(AxisAnswer::default(), AxisAnswer { number: 0, axis: zero });
 }
 
 #[test]

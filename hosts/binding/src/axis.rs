@@ -1,9 +1,9 @@
 //! Axes, and offsets on them.
 
 use crate::boundary;
-use crate::calendar::Calendar;
+use crate::calendar::{Calendar, or_of_1582};
 use crate::refusal::{Refusal, RefusedRun, tested};
-use answers::{AxisAnswer, Fields, RunAnswer};
+use answers::{AxisAnswer, Date, Fields, RunAnswer};
 
 #[derive(Clone, Copy, PartialEq, Eq, Hash, Debug)]
 pub enum Period {
@@ -40,6 +40,8 @@ pub struct Axis {
     pub period: Period,
     pub mode: Mode,
     pub reference: i64,
+    /// The first Gregorian date of `Calendar::Standard`; the other calendars do not look at it.
+    pub cutover: Date,
 }
 
 #[derive(Clone, Copy, PartialEq, Debug)]
@@ -73,7 +75,8 @@ pub struct Reading {
     /// Whether the instant is exactly what was read and not the nearest microsecond to it.
     pub exact: bool,
     /// The reference's day of the month less the given one: calendar months and years step a day that the month lacks back until it
-    /// exists, by at most 3 days, in October 1582 of `Standard` by at most 10. It is 0 in fixed mode, in shorter periods and for ISO texts.
+    /// exists, by at most 3 days, but in the month of which `Standard` dropped dates by at most as many as these, or, before a cutover that is
+    /// the first of a month, at most from a 31st to the last day kept. It is 0 in fixed mode, in shorter periods and for ISO texts.
     pub days_back: u32,
 }
 
@@ -99,25 +102,36 @@ impl Run {
 }
 
 impl Axis {
-    /// The axis of a units text, such as `days since 1850-01-01`, in the calendar of a name.
-    pub fn of_units(calendar: &str, units: &str) -> Result<Axis, Refusal> {
-        Axis::of_answer(boundary::read_units(calendar.as_bytes(), units.as_bytes()))
+    /// The axis of a units text, such as `days since 1850-01-01`, in the calendar of a name with a cutover, or with that of 1582.
+    pub fn of_units(calendar: &str, cutover: impl Into<Option<Date>>, units: &str) -> Result<Axis, Refusal> {
+        Axis::of_answer(boundary::read_units(calendar.as_bytes(), or_of_1582(cutover), units.as_bytes()))
     }
 
     pub(crate) fn of_answer(answer: AxisAnswer) -> Result<Axis, Refusal> {
         tested(answer.number)?;
-        let answers::Axis { calendar, period, mode, reference } = answer.axis;
+        let answers::Axis { calendar, period, mode, reference, cutover } = answer.axis;
         Ok(Axis {
             calendar: Calendar::of_code(calendar).expect("a calendar's code"),
             period: PERIODS[period as usize],
             mode: if mode == 0 { Mode::Fixed } else { Mode::Calendar },
             reference,
+            cutover,
         })
     }
 
     fn codes(self) -> answers::Axis {
-        let Axis { calendar, period, mode, reference } = self;
-        answers::Axis { calendar: calendar.code(), period: period as u32, mode: mode as u32, reference }
+        let Axis { calendar, period, mode, reference, cutover } = self;
+        answers::Axis { calendar: calendar.code(), period: period as u32, mode: mode as u32, reference, cutover }
+    }
+
+    /// The ISO text of an instant in the axis's calendar, with the axis's cutover.
+    pub fn iso_text(self, instant: i64) -> Result<String, Refusal> {
+        self.calendar.iso_text(self.cutover, instant)
+    }
+
+    /// The fields of an instant in the axis's calendar, with the axis's cutover.
+    pub fn fields_of(self, instant: i64) -> Result<Fields, Refusal> {
+        self.calendar.fields_of(self.cutover, instant)
     }
 
     pub fn read(self, offset: impl Into<Offset>) -> Result<Reading, Refusal> {

@@ -4,8 +4,8 @@
 use crate::raw;
 use answers::*;
 
-pub fn read_units(calendar: &[u8], text: &[u8]) -> AxisAnswer {
-    unsafe { raw::uppinalo_read_units(calendar.as_ptr(), calendar.len(), text.as_ptr(), text.len()) }
+pub fn read_units(calendar: &[u8], cutover: Date, text: &[u8]) -> AxisAnswer {
+    unsafe { raw::uppinalo_read_units(calendar.as_ptr(), calendar.len(), cutover, text.as_ptr(), text.len()) }
 }
 
 pub fn start_units() -> UnitsState {
@@ -16,28 +16,28 @@ pub fn add_units(state: &mut UnitsState, fragment: &[u8]) -> u32 {
     unsafe { raw::uppinalo_add_units(state, fragment.as_ptr(), fragment.len()) }
 }
 
-pub fn end_units(state: &mut UnitsState, calendar: &[u8]) -> AxisAnswer {
-    unsafe { raw::uppinalo_end_units(state, calendar.as_ptr(), calendar.len()) }
+pub fn end_units(state: &mut UnitsState, calendar: &[u8], cutover: Date) -> AxisAnswer {
+    unsafe { raw::uppinalo_end_units(state, calendar.as_ptr(), calendar.len(), cutover) }
 }
 
-pub fn read_iso(calendar: &[u8], text: &[u8]) -> Reading {
-    unsafe { raw::uppinalo_read_iso(calendar.as_ptr(), calendar.len(), text.as_ptr(), text.len()) }
+pub fn read_iso(calendar: &[u8], cutover: Date, text: &[u8]) -> Reading {
+    unsafe { raw::uppinalo_read_iso(calendar.as_ptr(), calendar.len(), cutover, text.as_ptr(), text.len()) }
 }
 
-pub fn write_iso(calendar: u32, instant: i64, room: &mut [u8]) -> LengthAnswer {
-    unsafe { raw::uppinalo_write_iso(calendar, instant, room.as_mut_ptr(), room.len()) }
+pub fn write_iso(calendar: u32, cutover: Date, instant: i64, room: &mut [u8]) -> LengthAnswer {
+    unsafe { raw::uppinalo_write_iso(calendar, cutover, instant, room.as_mut_ptr(), room.len()) }
 }
 
-pub fn fields_of(calendar: u32, instant: i64) -> FieldsAnswer {
-    unsafe { raw::uppinalo_fields_of(calendar, instant) }
+pub fn fields_of(calendar: u32, cutover: Date, instant: i64) -> FieldsAnswer {
+    unsafe { raw::uppinalo_fields_of(calendar, cutover, instant) }
 }
 
-pub fn date_of_day(calendar: u32, day: i64) -> DateAnswer {
-    unsafe { raw::uppinalo_date_of_day(calendar, day) }
+pub fn date_of_day(calendar: u32, cutover: Date, day: i64) -> DateAnswer {
+    unsafe { raw::uppinalo_date_of_day(calendar, cutover, day) }
 }
 
-pub fn day_of_date(calendar: u32, date: Date) -> DayAnswer {
-    unsafe { raw::uppinalo_day_of_date(calendar, date) }
+pub fn day_of_date(calendar: u32, cutover: Date, date: Date) -> DayAnswer {
+    unsafe { raw::uppinalo_day_of_date(calendar, cutover, date) }
 }
 
 pub fn read_whole(axis: Axis, offset: i64) -> Reading {

@@ -18,15 +18,15 @@ macro_rules! calls {
 }
 
 calls! {
-    "read_units" uppinalo_read_units(calendar: *const u8, calendar_len: usize, text: *const u8, text_len: usize) -> AxisAnswer;
+    "read_units" uppinalo_read_units(calendar: *const u8, calendar_len: usize, cutover: Date, text: *const u8, text_len: usize) -> AxisAnswer;
     "start_units" uppinalo_start_units() -> UnitsState;
     "add_units" uppinalo_add_units(state: *mut UnitsState, fragment: *const u8, fragment_len: usize) -> u32;
-    "end_units" uppinalo_end_units(state: *mut UnitsState, calendar: *const u8, calendar_len: usize) -> AxisAnswer;
-    "read_iso" uppinalo_read_iso(calendar: *const u8, calendar_len: usize, text: *const u8, text_len: usize) -> Reading;
-    "write_iso" uppinalo_write_iso(calendar: u32, instant: i64, room: *mut u8, room_len: usize) -> LengthAnswer;
-    "fields_of" uppinalo_fields_of(calendar: u32, instant: i64) -> FieldsAnswer;
-    "date_of_day" uppinalo_date_of_day(calendar: u32, day: i64) -> DateAnswer;
-    "day_of_date" uppinalo_day_of_date(calendar: u32, date: Date) -> DayAnswer;
+    "end_units" uppinalo_end_units(state: *mut UnitsState, calendar: *const u8, calendar_len: usize, cutover: Date) -> AxisAnswer;
+    "read_iso" uppinalo_read_iso(calendar: *const u8, calendar_len: usize, cutover: Date, text: *const u8, text_len: usize) -> Reading;
+    "write_iso" uppinalo_write_iso(calendar: u32, cutover: Date, instant: i64, room: *mut u8, room_len: usize) -> LengthAnswer;
+    "fields_of" uppinalo_fields_of(calendar: u32, cutover: Date, instant: i64) -> FieldsAnswer;
+    "date_of_day" uppinalo_date_of_day(calendar: u32, cutover: Date, day: i64) -> DateAnswer;
+    "day_of_date" uppinalo_day_of_date(calendar: u32, cutover: Date, date: Date) -> DayAnswer;
     "read_whole" uppinalo_read_whole(axis: Axis, offset: i64) -> Reading;
     "read_double" uppinalo_read_double(axis: Axis, offset: f64) -> Reading;
     "write_instant" uppinalo_write_instant(axis: Axis, instant: i64) -> OffsetAnswer;

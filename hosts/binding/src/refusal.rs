@@ -20,6 +20,7 @@ pub enum Refusal {
     DroppedDate,
     BadLeapSeconds,
     Before1972,
+    CutoverNotAllowed,
     /// A number for which this crate has no name.
     Other(u32),
 }
@@ -42,6 +43,7 @@ impl Refusal {
             13 => Refusal::DroppedDate,
             14 => Refusal::BadLeapSeconds,
             15 => Refusal::Before1972,
+            16 => Refusal::CutoverNotAllowed,
             _ => Refusal::Other(number),
         }
     }
@@ -63,6 +65,7 @@ impl Refusal {
             Refusal::DroppedDate => 13,
             Refusal::BadLeapSeconds => 14,
             Refusal::Before1972 => 15,
+            Refusal::CutoverNotAllowed => 16,
             Refusal::Other(number) => number,
         }
     }
@@ -89,11 +92,16 @@ impl Refusal {
             Refusal::MissingDate => {
                 "the calendar has no such year or day, such as year 0 or 30 February: look whether it is the calendar that was meant"
             }
-            Refusal::DroppedDate => "the calendar left this day out: in `standard` 1582-10-15 comes after 1582-10-04",
+            Refusal::DroppedDate => {
+                "the calendar left this day out: in `standard` a Julian date after the last day kept and before the cutover, by default 1582-10-05 to 1582-10-14"
+            }
             Refusal::BadLeapSeconds => {
                 "the list of leap seconds is not good: 1 to 64 records of 16 bytes, the first day 730 with count 10, then later days, each count one more"
             }
             Refusal::Before1972 => "the time lies before 1972-01-01, where the list of leap seconds begins",
+            Refusal::CutoverNotAllowed => {
+                "the cutover is not allowed in `standard`: it must be a Gregorian date from 1582-10-15 to 1923-12-31, and the dates it drops must lie in one month and leave the first of it"
+            }
             Refusal::Other(_) => "a refusal that this crate has no words for",
         }
     }

@@ -2,8 +2,9 @@
 
 use crate::axis::Axis;
 use crate::boundary;
+use crate::calendar::or_of_1582;
 use crate::refusal::{Refusal, tested};
-use answers::UnitsState;
+use answers::{Date, UnitsState};
 use std::io::{self, Write};
 
 /// Reads a units text that comes in fragments of any lengths, cut anywhere, also within a character.
@@ -11,7 +12,7 @@ use std::io::{self, Write};
 ///     let mut reader = UnitsReader::new();
 ///     reader.add(b"days si");
 ///     reader.add(b"nce 1850-01-01");
-///     let axis = reader.end("noleap")?;
+///     let axis = reader.end("noleap", None)?;
 ///
 /// It takes the fragments as bytes, by `add`, by `extend` or as a `Write`. Whatever they are, adding them succeeds, and `end` answers as
 /// `Axis::of_units` does of the joined text. It takes the reader, so that nothing can be added after it, and `Refusal::NotOpen` is never
@@ -30,9 +31,9 @@ impl UnitsReader {
         tested(boundary::add_units(&mut self.state, fragment)).expect("a state that is open")
     }
 
-    /// The axis of the text, in the calendar of a name.
-    pub fn end(mut self, calendar: &str) -> Result<Axis, Refusal> {
-        Axis::of_answer(boundary::end_units(&mut self.state, calendar.as_bytes()))
+    /// The axis of the text, in the calendar of a name with a cutover, or with that of 1582.
+    pub fn end(mut self, calendar: &str, cutover: impl Into<Option<Date>>) -> Result<Axis, Refusal> {
+        Axis::of_answer(boundary::end_units(&mut self.state, calendar.as_bytes(), or_of_1582(cutover)))
     }
 }
 

@@ -14,7 +14,7 @@ fn are_exported(calls: &[&str]) -> bool {
 }
 
 fn axis(calendar: Calendar, period: Period, mode: Mode, reference: i64) -> Axis {
-    Axis { calendar, period, mode, reference }
+    Axis { calendar, period, mode, reference, cutover: CUTOVER_1582 }
 }
 
 /// The rows of README.md's table of refusals.
@@ -38,6 +38,7 @@ fn words() {
         DroppedDate,
         BadLeapSeconds,
         Before1972,
+        CutoverNotAllowed,
     ] {
         let row = format!("\n| {} | {} |\n", refusal.number(), refusal.words());
         assert!(readme.contains(&row), "{refusal}");
@@ -49,11 +50,11 @@ fn days() {
     if !are_exported(&["date_of_day", "day_of_date"]) {
         return;
     }
-    let day = Calendar::Standard.day_of_date(Date { year: 1582, month: 10, day: 4 }).unwrap();
-    assert_eq!(Calendar::Standard.date_of_day(day + 1), Ok(Date { year: 1582, month: 10, day: 15 }));
-    let first = Calendar::Julian.day_of_date(Date { year: 1, month: 1, day: 1 }).unwrap();
-    assert_eq!(Calendar::Julian.date_of_day(first - 1), Ok(Date { year: -1, month: 12, day: 31 }));
-    assert_eq!(Calendar::Julian.date_of_day(i64::MAX), Err(Refusal::OutOfRange));
+    let day = Calendar::Standard.day_of_date(None, Date { year: 1582, month: 10, day: 4 }).unwrap();
+    assert_eq!(Calendar::Standard.date_of_day(None, day + 1), Ok(Date { year: 1582, month: 10, day: 15 }));
+    let first = Calendar::Julian.day_of_date(None, Date { year: 1, month: 1, day: 1 }).unwrap();
+    assert_eq!(Calendar::Julian.date_of_day(None, first - 1), Ok(Date { year: -1, month: 12, day: 31 }));
+    assert_eq!(Calendar::Julian.date_of_day(None, i64::MAX), Err(Refusal::OutOfRange));
 }
 
 /// A date may be missing or dropped in one calendar and good in another; a mistyped one is good in none.
@@ -62,7 +63,7 @@ fn refused_dates() {
     if !are_exported(&["day_of_date"]) {
         return;
     }
-    let refusal = |calendar: Calendar, year, month, day| calendar.day_of_date(Date { year, month, day }).err();
+    let refusal = |calendar: Calendar, year, month, day| calendar.day_of_date(None, Date { year, month, day }).err();
     for (month, day) in [(0, 1), (13, 1), (1, 0), (1, 32), (13, 32)] {
         assert_eq!(refusal(Calendar::Julian, 0, month, day), Some(Refusal::ImpossibleField));
     }
@@ -96,11 +97,11 @@ fn refused_dates_in_texts() {
     ];
     for (calendar, date, refusal) in cases {
         let units = format!("days since {date}");
-        assert_eq!(read_iso(calendar, date), Err(refusal), "{date}");
-        assert_eq!(Axis::of_units(calendar, &units), Err(refusal), "{date}");
+        assert_eq!(read_iso(calendar, None, date), Err(refusal), "{date}");
+        assert_eq!(Axis::of_units(calendar, None, &units), Err(refusal), "{date}");
         let mut reader = UnitsReader::new();
         reader.add(units.as_bytes());
-        assert_eq!(reader.end(calendar), Err(refusal), "{date}");
+        assert_eq!(reader.end(calendar, None), Err(refusal), "{date}");
     }
 }
 
@@ -109,9 +110,9 @@ fn fields() {
     if !are_exported(&["fields_of"]) {
         return;
     }
-    let fields = Calendar::Noleap.fields_of(-1).unwrap();
+    let fields = Calendar::Noleap.fields_of(None, -1).unwrap();
     assert_eq!((fields.year, fields.month, fields.day, fields.microsecond), (1969, 12, 31, 999_999));
-    assert_eq!(Calendar::Noleap.fields_of(i64::MIN), Err(Refusal::OutOfRange));
+    assert_eq!(Calendar::Noleap.fields_of(None, i64::MIN), Err(Refusal::OutOfRange));
 }
 
 #[test]
@@ -120,10 +121,10 @@ fn units() {
         return;
     }
     let expected = axis(Calendar::Day360, Period::Month, Mode::Calendar, NOON);
-    assert_eq!(Axis::of_units("360_day", "calendar months since 1970-01-01 12:00"), Ok(expected));
-    assert_eq!(Axis::of_units("tai", "days since 1970"), Err(Refusal::UnknownCalendar));
-    assert_eq!(Axis::of_units("", "ss since 1970"), Err(Refusal::IllFormed));
-    assert_eq!(Axis::of_units("", &"d".repeat(129)), Err(Refusal::TextTooLong));
+    assert_eq!(Axis::of_units("360_day", None, "calendar months since 1970-01-01 12:00"), Ok(expected));
+    assert_eq!(Axis::of_units("tai", None, "days since 1970"), Err(Refusal::UnknownCalendar));
+    assert_eq!(Axis::of_units("", None, "ss since 1970"), Err(Refusal::IllFormed));
+    assert_eq!(Axis::of_units("", None, &"d".repeat(129)), Err(Refusal::TextTooLong));
 }
 
 #[test]
@@ -138,15 +139,15 @@ fn units_in_fragments() {
     reader.add(b"");
     let mut other = reader.clone();
     reader.add(&text.as_bytes()[13..]);
-    assert_eq!(reader.end(name), expected);
+    assert_eq!(reader.end(name, None), expected);
     other.extend(text.as_bytes()[13..].chunks(1));
-    assert_eq!(other.end(name), expected);
+    assert_eq!(other.end(name, None), expected);
     let mut reader = UnitsReader::default();
     assert_eq!(std::io::copy(&mut text.as_bytes(), &mut reader).unwrap(), 38);
     reader.flush().unwrap();
-    assert_eq!(reader.clone().end("tai"), Err(Refusal::UnknownCalendar));
-    assert_eq!(reader.end(name), expected);
-    assert_eq!(UnitsReader::new().end(""), Err(Refusal::IllFormed));
+    assert_eq!(reader.clone().end("tai", None), Err(Refusal::UnknownCalendar));
+    assert_eq!(reader.end(name, None), expected);
+    assert_eq!(UnitsReader::new().end("", None), Err(Refusal::IllFormed));
 }
 
 /// Bytes past the 128th are taken too, and the end refuses the text for them.
@@ -157,11 +158,11 @@ fn units_in_long_fragments() {
     }
     let mut reader = UnitsReader::new();
     write!(reader, "s since{:>121}", "1970").unwrap();
-    assert_eq!(reader.clone().end("standard"), Ok(axis(Calendar::Standard, Period::Second, Mode::Fixed, 0)));
+    assert_eq!(reader.clone().end("standard", None), Ok(axis(Calendar::Standard, Period::Second, Mode::Fixed, 0)));
     reader.write_all(b"Z").unwrap();
-    assert_eq!(reader.clone().end("tai"), Err(Refusal::TextTooLong));
+    assert_eq!(reader.clone().end("tai", None), Err(Refusal::TextTooLong));
     reader.extend([&[b' '; 5000][..], b"s since 1970"]);
-    assert_eq!(reader.end(""), Err(Refusal::TextTooLong));
+    assert_eq!(reader.end("", None), Err(Refusal::TextTooLong));
 }
 
 #[test]
@@ -170,10 +171,10 @@ fn iso() {
         return;
     }
     let text = "1969-12-31T12:00:00.000000Z";
-    assert_eq!(read_iso("", text), Ok(Reading { instant: -NOON, exact: true, days_back: 0 }));
-    assert_eq!(Calendar::Standard.iso_text(-NOON).as_deref(), Ok(text));
-    assert_eq!(Calendar::Standard.write_iso(0, &mut [0; 26]), Err(Refusal::NoRoom));
-    assert_eq!(Calendar::Standard.iso_text(i64::MAX), Err(Refusal::OutOfRange));
+    assert_eq!(read_iso("", None, text), Ok(Reading { instant: -NOON, exact: true, days_back: 0 }));
+    assert_eq!(Calendar::Standard.iso_text(None, -NOON).as_deref(), Ok(text));
+    assert_eq!(Calendar::Standard.write_iso(None, 0, &mut [0; 26]), Err(Refusal::NoRoom));
+    assert_eq!(Calendar::Standard.iso_text(None, i64::MAX), Err(Refusal::OutOfRange));
 }
 
 #[test]
@@ -212,11 +213,69 @@ fn days_back() {
         ("standard", "days since 1930-01-31", 28, "1930-02-28", 0),
     ];
     for (calendar, units, offset, date, days_back) in cases {
-        let axis = Axis::of_units(calendar, units).unwrap();
-        let at = Reading { days_back, ..read_iso(calendar, date).unwrap() };
+        let axis = Axis::of_units(calendar, None, units).unwrap();
+        let at = Reading { days_back, ..read_iso(calendar, None, date).unwrap() };
         assert_eq!(axis.read(offset), Ok(at), "{units}");
         assert_eq!(axis.read(offset as f64), Ok(at), "{units}");
-        assert_eq!(read_iso(calendar, date).map(|reading| reading.days_back), Ok(0));
+        assert_eq!(read_iso(calendar, None, date).map(|reading| reading.days_back), Ok(0));
+    }
+}
+
+const ENGLISH: Date = Date { year: 1752, month: 9, day: 14 };
+const RUSSIAN: Date = Date { year: 1918, month: 2, day: 14 };
+
+/// An English diary, from 1752-09-02 to 1752-09-14.
+#[test]
+fn english_cutover() {
+    if !are_exported(&[
+        "read_units",
+        "read_whole",
+        "write_iso",
+        "write_fields",
+        "fields_of",
+        "day_of_date",
+        "date_of_day",
+    ]) {
+        return;
+    }
+    let diary = Axis::of_units("standard", ENGLISH, "days since 1752-09-02").unwrap();
+    assert_eq!(diary.cutover, ENGLISH);
+    let reading = diary.read(1).unwrap();
+    assert_eq!(diary.iso_text(reading.instant).as_deref(), Ok("1752-09-14T00:00:00.000000Z"));
+    assert_eq!(diary.fields_of(reading.instant).map(|fields| fields.day), Ok(14));
+    assert_eq!(Calendar::Standard.iso_text(None, reading.instant), diary.iso_text(reading.instant));
+    let date = |day| Date { day, ..ENGLISH };
+    let first = Calendar::Standard.day_of_date(ENGLISH, ENGLISH).unwrap();
+    assert_eq!(Calendar::Standard.date_of_day(ENGLISH, first - 1), Ok(date(2)));
+    for day in 3..14 {
+        assert_eq!(Calendar::Standard.day_of_date(ENGLISH, date(day)), Err(Refusal::DroppedDate));
+        assert_eq!(Calendar::Standard.day_of_date(None, date(day)).map(|_| ()), Ok(()));
+        let fields = Fields { year: 1752, month: 9, day, ..Default::default() };
+        assert_eq!(diary.write_fields(fields), Err(Refusal::DroppedDate));
+    }
+    let months = Axis::of_units("", ENGLISH, "calendar months since 1752-08-13").unwrap();
+    assert_eq!(months.read(1).map(|reading| reading.days_back), Ok(11));
+}
+
+#[test]
+fn cutovers_that_are_not_allowed() {
+    if !are_exported(&["read_units", "read_iso", "write_iso", "fields_of", "day_of_date", "date_of_day", "end_units"]) {
+        return;
+    }
+    let refused = Refusal::CutoverNotAllowed;
+    for cutover in [RUSSIAN, Date::default(), Date { day: 12, ..ENGLISH }, Date { year: 1924, ..ENGLISH }] {
+        assert_eq!(Axis::of_units("standard", cutover, "days since 1970"), Err(refused));
+        assert_eq!(Axis::of_units("tai", cutover, ""), Err(Refusal::UnknownCalendar));
+        assert_eq!(UnitsReader::new().end("", cutover), Err(refused));
+        assert_eq!(read_iso("gregorian", cutover, "1970-13"), Err(refused));
+        assert_eq!(Calendar::Standard.iso_text(cutover, 0), Err(refused));
+        assert_eq!(Calendar::Standard.fields_of(cutover, i64::MAX), Err(refused));
+        assert_eq!(Calendar::Standard.date_of_day(cutover, 0), Err(refused));
+        assert_eq!(Calendar::Standard.day_of_date(cutover, RUSSIAN), Err(refused));
+        let axis = Axis { cutover, ..axis(Calendar::Standard, Period::Day, Mode::Fixed, i64::MAX) };
+        assert_eq!((axis.read(0), axis.write(0)), (Err(refused), Err(refused)));
+        let julian = Axis::of_units("julian", cutover, "days since 1970").unwrap();
+        assert_eq!((julian.cutover, julian.read(0).map(|reading| reading.instant)), (cutover, Ok(0)));
     }
 }
 

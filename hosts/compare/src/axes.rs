@@ -1,10 +1,10 @@
-//! Axes and instants for all comparisons.
+//! Axes, cutovers and instants for all comparisons.
 
-use answers::Axis;
-use samples::{Random, instants};
+use answers::{Axis, CUTOVER_1582, Date};
+use samples::{Random, cutovers, instants};
 use second::boundary;
 
-/// Days that begin or end something: 1582's cutover, years 0 and 1, leap days, ends of months.
+/// Days that begin or end something: the cutover of 1582, years 0 and 1, leap days, ends of months.
 const DATES: [(i64, u32, u32); 16] = [
     (1582, 10, 4),
     (1582, 10, 15),
@@ -24,10 +24,11 @@ const DATES: [(i64, u32, u32); 16] = [
     (1970, 1, 1),
 ];
 
-fn near_a_date(random: &mut Random, calendar: u32) -> i64 {
+/// Near the cutover, or near one of those days.
+fn near_a_date(random: &mut Random, calendar: u32, cutover: Date) -> i64 {
     let (year, month, day) = random.pick(&DATES);
-    let found = boundary::day_number_of_date(calendar, answers::Date { year, month, day });
-    let start = found.day * instants::DAY;
+    let date = if random.one_in(2) { cutover } else { Date { year, month, day } };
+    let start = boundary::day_number_of_date(calendar, cutover, date).day * instants::DAY;
     match random.below(3) {
         0 => start,
         1 => start + random.between(-2, 2),
@@ -36,12 +37,12 @@ fn near_a_date(random: &mut Random, calendar: u32) -> i64 {
 }
 
 /// An instant of a known calendar, in its range or just past it.
-pub fn instant(random: &mut Random, calendar: u32) -> i64 {
+pub fn instant(random: &mut Random, calendar: u32, cutover: Date) -> i64 {
     let (first, last) = (instants::first(calendar), instants::last(calendar));
     match random.below(8) {
         0 => first + random.between(-2, 2),
         1 => last + random.between(-2, 2),
-        2 => near_a_date(random, calendar),
+        2 => near_a_date(random, calendar, cutover),
         3 => random.between(first, last) / instants::DAY * instants::DAY,
         4 => random.between(instants::first_of_year(calendar, 1850), instants::first_of_year(calendar, 2101)),
         _ => random.between(first, last),
@@ -49,8 +50,8 @@ pub fn instant(random: &mut Random, calendar: u32) -> i64 {
 }
 
 /// An instant in range.
-pub fn reference(random: &mut Random, calendar: u32) -> i64 {
-    instant(random, calendar).clamp(instants::first(calendar), instants::last(calendar))
+pub fn reference(random: &mut Random, calendar: u32, cutover: Date) -> i64 {
+    instant(random, calendar, cutover).clamp(instants::first(calendar), instants::last(calendar))
 }
 
 /// An instant that is most often past the range.
@@ -68,10 +69,32 @@ pub fn unknown_code(random: &mut Random, known: u32) -> u32 {
     random.pick(&[known, known + 1, u32::MAX, 1 << 31, 256, 65_536])
 }
 
-/// An axis of a known calendar, its reference in range.
+/// A cutover that a known calendar takes: in `standard` half of the time that of 1582, in others any date.
+pub fn cutover(random: &mut Random, calendar: u32) -> Date {
+    match calendar {
+        0 if random.one_in(2) => CUTOVER_1582,
+        0 => cutovers::good(random),
+        _ => cutovers::any(random),
+    }
+}
+
+/// An axis of a known calendar, its reference in range and its cutover allowed.
 pub fn good_axis(random: &mut Random, calendar: u32) -> Axis {
-    let reference = reference(random, calendar);
-    Axis { calendar, period: random.below(8) as u32, mode: random.below(2) as u32, reference }
+    let cutover = cutover(random, calendar);
+    let reference = reference(random, calendar, cutover);
+    Axis { calendar, period: random.below(8) as u32, mode: random.below(2) as u32, reference, cutover }
+}
+
+/// An axis of `standard` with a cutover that is not allowed, and maybe with another fault.
+fn axis_with_a_bad_cutover(random: &mut Random) -> Axis {
+    let axis = Axis { cutover: cutovers::bad(random), ..good_axis(random, 0) };
+    match random.below(6) {
+        0 => Axis { calendar: unknown_code(random, 6), ..axis },
+        1 => Axis { period: unknown_code(random, 8), ..axis },
+        2 => Axis { mode: unknown_code(random, 2), ..axis },
+        3 => Axis { reference: instant_past_range(random, 0), ..axis },
+        _ => axis,
+    }
 }
 
 /// An axis and the kind it is of; most are good.
@@ -84,8 +107,10 @@ pub fn axis(random: &mut Random) -> (&'static str, Axis) {
         2 => ("axis with an unknown mode", Axis { mode: unknown_code(random, 2), ..good }),
         3 => {
             let (calendar, period) = (unknown_code(random, 6), unknown_code(random, 8));
-            ("axis with several faults", Axis { calendar, period, mode: 2, reference: random.bits() as i64 })
+            let reference = random.bits() as i64;
+            ("axis with several faults", Axis { calendar, period, mode: 2, reference, ..good })
         }
+        6 => ("axis with a cutover not allowed", axis_with_a_bad_cutover(random)),
         4 | 5 => ("axis past the range", Axis { reference: instant_past_range(random, good.calendar), ..good }),
         _ if good.mode == 1 && good.period >= 6 => ("calendar months and years", good),
         _ if good.mode == 1 => ("calendar mode, shorter periods", good),

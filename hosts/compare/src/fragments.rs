@@ -3,28 +3,33 @@
 
 use crate::run::Run;
 use crate::states::{Calls, States};
-use crate::texts::Input;
-use answers::AxisAnswer;
-use samples::borders;
+use crate::texts::{Input, code};
+use answers::{AxisAnswer, CUTOVER_1582, Date};
 use samples::fragments::{cut, cuts, fragment, state, texts};
 use samples::texts::calendar_name;
+use samples::{borders, cutovers};
 use second::boundary;
 use std::ptr::null;
 use uppinalo::{boundary as archive, raw};
 
-const ADD: Calls<u32> = Calls { archive: archive::add_units, second: boundary::add_units, number: |&number| number };
+const ADD: Calls<u32> = Calls {
+    archive: |state, bytes, _| archive::add_units(state, bytes),
+    second: |state, bytes, _| boundary::add_units(state, bytes),
+    number: |&number| number,
+};
 const END: Calls<AxisAnswer> =
     Calls { archive: archive::end_units, second: boundary::end_units, number: |answer| answer.number };
 /// Those with a null pointer to no bytes.
-const ADD_NULL: Calls<u32> = Calls { archive: |state, _| unsafe { raw::uppinalo_add_units(state, null(), 0) }, ..ADD };
+const ADD_NULL: Calls<u32> =
+    Calls { archive: |state, _, _| unsafe { raw::uppinalo_add_units(state, null(), 0) }, ..ADD };
 const END_NULL: Calls<AxisAnswer> =
-    Calls { archive: |state, _| unsafe { raw::uppinalo_end_units(state, null(), 0) }, ..END };
+    Calls { archive: |state, _, cutover| unsafe { raw::uppinalo_end_units(state, null(), 0, cutover) }, ..END };
 
 pub fn start_units(run: &mut Run) {
     for _ in 0..run.count(100_000, 2_000_000) {
         let (_, mut other) = state(&mut run.random);
         archive::add_units(&mut other, &fragment(&mut run.random));
-        archive::end_units(&mut other, b"");
+        archive::end_units(&mut other, b"", CUTOVER_1582);
         run.judge("after calls with another state", 0, &other, archive::start_units(), boundary::start_units());
     }
 }
@@ -49,7 +54,7 @@ pub fn add_units(run: &mut Run) {
         for (kind, fragments) in cuts(&mut states.run.random, &text) {
             add_each(&mut states, kind, &fragments);
         }
-        boundary::end_units(&mut states.state, b"");
+        boundary::end_units(&mut states.state, b"", CUTOVER_1582);
         add_after_the_end(&mut states);
     }
     for _ in 0..states.run.count(200_000, 4_000_000) {
@@ -61,16 +66,35 @@ pub fn add_units(run: &mut Run) {
     }
 }
 
+/// One end, in the calendar of a name with a cutover for it.
+fn one_end(states: &mut States, kind: &'static str, calls: &Calls<AxisAnswer>, name: &[u8]) -> AxisAnswer {
+    states.cutover = cutovers::of_calendar(&mut states.run.random, code(name));
+    states.run.with(code(name), states.cutover);
+    states.compare(kind, calls, name)
+}
+
 /// The fragments and their end, and then more.
 fn end(states: &mut States, kind: &'static str, fragments: &[&[u8]], name: &[u8]) {
     add_each(states, "fragments before the end", fragments);
-    let answer = states.compare(kind, &END, name);
+    let answer = one_end(states, kind, &END, name);
     let text = fragments.concat();
-    let is_same = answer == archive::read_units(name, &text);
-    states.run.expect(kind, &Input(name, &text), is_same, "the joined text reads otherwise");
+    let is_same = answer == archive::read_units(name, states.cutover, &text);
+    states.run.expect(kind, &Input(name, states.cutover, &text), is_same, "the joined text reads otherwise");
     let name = calendar_name(&mut states.run.random);
-    states.compare("a second end", &END, &name);
+    one_end(states, "a second end", &END, &name);
     add_after_the_end(states);
+}
+
+/// A text with a date about a cutover, which the end is given.
+fn end_about(states: &mut States, cutover: Date) {
+    let date = cutovers::date_about(&mut states.run.random, cutover);
+    let (name, date) = borders::text(&mut states.run.random, 0, date);
+    let text = format!("days since {date}");
+    let fragments = cut(&mut states.run.random, text.as_bytes());
+    add_each(states, "fragments before the end", &fragments);
+    states.cutover = cutover;
+    states.run.with(0, cutover);
+    states.compare("fields at their borders, near a cutover", &END, name.as_bytes());
 }
 
 pub fn end_units(run: &mut Run) {
@@ -88,12 +112,16 @@ pub fn end_units(run: &mut Run) {
         let fragments = cut(&mut states.run.random, text.as_bytes());
         end(&mut states, "fields at their borders", &fragments, name.as_bytes());
     }
+    for _ in 0..states.run.count(50_000, 1_000_000) {
+        let about = cutovers::of_calendar(&mut states.run.random, 0);
+        end_about(&mut states, about);
+    }
     for _ in 0..states.run.count(100_000, 1_500_000) {
         let (kind, state) = state(&mut states.run.random);
         let name = calendar_name(&mut states.run.random);
         states.state = state;
-        states.compare(kind, &END, &name);
+        one_end(&mut states, kind, &END, &name);
         states.state = state;
-        states.compare("null pointer", &END_NULL, b"");
+        one_end(&mut states, "null pointer", &END_NULL, b"");
     }
 }

@@ -2,9 +2,11 @@
 
 use crate::axes;
 use crate::run::Run;
-use answers::Axis;
-use samples::{Random, calendar_steps, doubles, instants, wholes};
+use answers::{Axis, CUTOVER_1582};
+use samples::{Random, calendar_steps, cutovers, doubles, instants, wholes};
 use second::boundary;
+use second::codes::date_numbers;
+use second::cutover::allowed;
 use uppinalo::boundary as archive;
 
 /// What the kinds of an axis and of an offset are together.
@@ -26,6 +28,7 @@ pub fn read_whole(run: &mut Run) {
         one_whole(run, joined(axis_kind, kind), axis, offset);
     }
     from_every_day(run, one_whole);
+    about_cutovers(run, one_whole);
 }
 
 /// Calendar months and years from every day of the years at the borders, and in the long comparison of others.
@@ -34,9 +37,26 @@ fn from_every_day(run: &mut Run, one: impl Fn(&mut Run, &'static str, Axis, i64)
     for calendar in 0..6 {
         for year in calendar_steps::YEARS.into_iter().chain((-9950..9999).step_by(99).take(others)) {
             let time = run.random.between(0, instants::DAY - 1);
-            for (axis, offset) in calendar_steps::from_days_of_year(calendar, year, time) {
+            for (axis, offset) in calendar_steps::from_days_of_year(calendar, CUTOVER_1582, year, time) {
                 one(run, "calendar steps from every day of a year", axis, offset);
             }
+        }
+    }
+}
+
+/// Calendar months and years from every day of the years about a cutover, and to the dropped dates of every one.
+fn about_cutovers(run: &mut Run, one: impl Fn(&mut Run, &'static str, Axis, i64)) {
+    for turn in 0..run.count(30, 1000) {
+        let cutover = cutovers::good(&mut run.random);
+        let (year, time) = (cutover.year + turn as i64 % 3 - 1, run.random.between(0, instants::DAY - 1));
+        for (axis, offset) in calendar_steps::from_days_of_year(0, cutover, year, time) {
+            one(run, "calendar steps about a cutover", axis, offset);
+        }
+    }
+    for cutover in allowed() {
+        for day in [31, cutover.dropped().last().expect("some date is dropped").day, 1 + run.random.below(31) as u32] {
+            let (axis, offset) = calendar_steps::to_dropped_dates(date_numbers(cutover.first), day);
+            one(run, "months to the dropped dates of each", axis, offset);
         }
     }
 }
@@ -56,6 +76,7 @@ pub fn read_double(run: &mut Run) {
         one_double(run, joined(axis_kind, kind), axis, x);
     }
     from_every_day(run, |run, kind, axis, offset| one_double(run, kind, axis, offset as f64));
+    about_cutovers(run, |run, kind, axis, offset| one_double(run, kind, axis, offset as f64));
     for axis in every_axis(&mut run.random) {
         for x in doubles::EDGES {
             one_double(run, "edges, on every axis", axis, x);
@@ -68,7 +89,7 @@ pub fn read_double(run: &mut Run) {
 pub fn every_axis(random: &mut Random) -> Vec<Axis> {
     let one = |codes: u32| {
         let (calendar, period, mode) = (codes / 16, codes / 2 % 8, codes % 2);
-        Axis { calendar, period, mode, reference: axes::reference(random, calendar) }
+        Axis { period, mode, ..axes::good_axis(random, calendar) }
     };
     (0..96).map(one).collect()
 }

@@ -1,8 +1,9 @@
 //! The comparison of one call: its inputs' source, how many there are to be, and what came of them.
 
-use answers::Axis;
+use answers::{Axis, Date};
 use samples::Random;
-use std::collections::BTreeMap;
+use samples::cutovers::allowed_at;
+use std::collections::{BTreeMap, HashSet};
 use std::fmt::Debug;
 use std::time::Instant;
 
@@ -13,7 +14,7 @@ pub enum Scale {
 }
 
 /// The greatest number that a call answers.
-const MOST: usize = 15;
+const MOST: usize = 16;
 /// How often each number was answered.
 type Counts = [u64; MOST + 1];
 
@@ -26,6 +27,9 @@ pub struct Run {
     spread: BTreeMap<(u32, u32), u64>,
     /// How many readings were stepped back by so many days.
     days_back: BTreeMap<u32, u64>,
+    /// The cutovers that `standard` was given, and the last of them.
+    cutovers: HashSet<Date>,
+    last_cutover: Date,
     differences: u64,
     pub random: Random,
 }
@@ -44,6 +48,8 @@ impl Run {
             kinds: BTreeMap::new(),
             spread: BTreeMap::new(),
             days_back: BTreeMap::new(),
+            cutovers: HashSet::new(),
+            last_cutover: Date::default(),
             differences: 0,
             random: Random::seeded(seed),
         }
@@ -72,8 +78,17 @@ impl Run {
         }
     }
 
+    /// Takes down the cutover that is given with a calendar.
+    pub fn with(&mut self, calendar: u32, cutover: Date) {
+        if calendar == 0 && (cutover != self.last_cutover || self.cutovers.is_empty()) {
+            self.last_cutover = cutover;
+            self.cutovers.insert(cutover);
+        }
+    }
+
     /// Takes down so many offsets on an axis.
     pub fn on(&mut self, axis: Axis, offsets: u64) {
+        self.with(axis.calendar, axis.cutover);
         if axis.calendar < 6 && axis.mode < 2 {
             *self.spread.entry((axis.calendar, axis.mode)).or_default() += offsets;
         }
@@ -123,6 +138,10 @@ impl Run {
         if !self.days_back.is_empty() {
             let counts: Vec<String> = self.days_back.iter().map(|(days, count)| format!("{count} by {days}")).collect();
             println!("  stepped back, by so many days: {}", counts.join(", "));
+        }
+        if !self.cutovers.is_empty() {
+            let allowed = self.cutovers.iter().filter(|&&cutover| allowed_at(cutover).is_some()).count();
+            println!("  {} cutovers of standard, {allowed} of them allowed", self.cutovers.len());
         }
         println!(
             "  {} inputs, {} differences, {:.1} s",

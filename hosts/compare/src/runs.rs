@@ -4,7 +4,7 @@ use crate::axes;
 use crate::lent::Lender;
 use crate::run::Run;
 use answers::{Axis, RunAnswer};
-use samples::{Random, doubles, wholes};
+use samples::{Random, calendar_steps, doubles, wholes};
 use second::boundary;
 use std::fmt::Debug;
 use uppinalo::boundary as archive;
@@ -13,9 +13,10 @@ const MOST: usize = 3000;
 
 type Call<T> = fn(Axis, &[T], &mut [i64]) -> RunAnswer;
 
-/// How offsets are drawn, the call of the archive, and its counterpart.
+/// How offsets are drawn, or made of whole ones, the call of the archive, and its counterpart.
 struct Kind<T> {
     offset: fn(&mut Random, Axis) -> T,
+    of_whole: fn(i64) -> T,
     archive: Call<T>,
     second: Call<T>,
 }
@@ -76,6 +77,14 @@ fn runs<T: Copy + PartialEq + Debug>(run: &mut Run, count: u64, calls: &Kind<T>)
         let kind = if axis_kind.starts_with("axis") { axis_kind } else { room_kind.unwrap_or(kind) };
         one_run(run, &mut lenders, kind, Input { axis, source, destination }, calls);
     }
+    for _ in 0..count / 4 {
+        let random = &mut run.random;
+        let (axis, offset) = calendar_steps::about_a_cutover(random);
+        let source: Vec<T> =
+            (0..length(random).min(20)).map(|_| (calls.of_whole)(offset + random.between(-2, 2))).collect();
+        let destination = source.iter().map(|_| random.bits() as i64).collect();
+        one_run(run, &mut lenders, "months to about the dropped dates", Input { axis, source, destination }, calls);
+    }
 }
 
 /// A destination's room: most often as much as is needed, or more.
@@ -114,7 +123,8 @@ fn source<T: Copy>(random: &mut Random, axis: Axis, calls: &Kind<T>) -> (&'stati
 pub fn read_wholes(run: &mut Run) {
     let count = run.count(20_000, 400_000);
     let offset = |random: &mut Random, axis| wholes::offset(random, axis).1;
-    runs(run, count, &Kind { offset, archive: archive::read_wholes, second: boundary::read_wholes });
+    let of_whole = |whole| whole;
+    runs(run, count, &Kind { offset, of_whole, archive: archive::read_wholes, second: boundary::read_wholes });
     empty_runs(run, |axis| unsafe {
         uppinalo::raw::uppinalo_read_wholes(axis, std::ptr::null(), 0, std::ptr::null_mut(), 0)
     });
@@ -123,7 +133,8 @@ pub fn read_wholes(run: &mut Run) {
 pub fn read_doubles(run: &mut Run) {
     let count = run.count(10_000, 200_000);
     let offset = |random: &mut Random, axis| doubles::double(random, axis).1;
-    runs(run, count, &Kind { offset, archive: archive::read_doubles, second: boundary::read_doubles });
+    let of_whole = |whole| whole as f64;
+    runs(run, count, &Kind { offset, of_whole, archive: archive::read_doubles, second: boundary::read_doubles });
     empty_runs(run, |axis| unsafe {
         uppinalo::raw::uppinalo_read_doubles(axis, std::ptr::null(), 0, std::ptr::null_mut(), 0)
     });

@@ -1,16 +1,16 @@
-//! The state of a units text and some bytes, lent to both programs, and every lent byte afterwards.
+//! The state of a units text and some bytes, lent to both programs with a cutover, and every lent byte afterwards.
 
 use crate::lent::Lender;
 use crate::run::Run;
-use answers::UnitsState;
+use answers::{CUTOVER_1582, Date, UnitsState};
 use std::fmt::{Debug, Formatter};
 
 const MOST_BYTES: usize = 6000;
 
-/// A call of the archive that is lent a state and some bytes, its counterpart, and the number in an answer.
+/// A call of the archive that is lent a state and some bytes, and maybe looks at a cutover, its counterpart, and the number in an answer.
 pub struct Calls<A> {
-    pub archive: fn(&mut UnitsState, &[u8]) -> A,
-    pub second: fn(&mut UnitsState, &[u8]) -> A,
+    pub archive: fn(&mut UnitsState, &[u8], Date) -> A,
+    pub second: fn(&mut UnitsState, &[u8], Date) -> A,
     pub number: fn(&A) -> u32,
 }
 
@@ -25,11 +25,11 @@ impl<A: Debug> Debug for With<A> {
     }
 }
 
-struct Shown<'a>(&'a [u8]);
+struct Shown<'a>(&'a [u8], Date);
 
 impl Debug for Shown<'_> {
     fn fmt(&self, out: &mut Formatter) -> std::fmt::Result {
-        write!(out, "\"{}\"", self.0.escape_ascii())
+        write!(out, "\"{}\" {:?}", self.0.escape_ascii(), self.1)
     }
 }
 
@@ -37,12 +37,15 @@ impl Debug for Shown<'_> {
 pub struct States<'a> {
     pub run: &'a mut Run,
     pub state: UnitsState,
+    /// The cutover of each end.
+    pub cutover: Date,
     lenders: [Lender; 2],
 }
 
 impl<'a> States<'a> {
     pub fn of(run: &'a mut Run) -> States<'a> {
-        States { run, state: UnitsState::default(), lenders: [(); 2].map(|()| Lender::with_room(MOST_BYTES)) }
+        let lenders = [(); 2].map(|()| Lender::with_room(MOST_BYTES));
+        States { run, state: UnitsState::default(), cutover: CUTOVER_1582, lenders }
     }
 
     /// Answers what the archive does.
@@ -50,9 +53,9 @@ impl<'a> States<'a> {
         let [for_state, for_bytes] = &mut self.lenders;
         let state = for_state.lend(&[self.state], &mut self.run.random);
         let lent = for_bytes.lend(bytes, &mut self.run.random);
-        let input = With(self.state, Shown(bytes));
-        let answer = (calls.archive)(&mut state.buffer[0], lent.buffer);
-        let second = (calls.second)(&mut self.state, bytes);
+        let input = With(self.state, Shown(bytes, self.cutover));
+        let answer = (calls.archive)(&mut state.buffer[0], lent.buffer, self.cutover);
+        let second = (calls.second)(&mut self.state, bytes, self.cutover);
         let (ours, expected) = (With(state.buffer[0], answer), With(self.state, second));
         self.run.judge(kind, (calls.number)(&second), &input, ours, expected);
         let is_kept = *lent.buffer == *bytes && lent.is_intact();

@@ -17,7 +17,7 @@ class Examples(unittest.TestCase):
     @needs("read_units", "read_whole", "read_double", "write_instant", "write_iso", "fields_of")
     @needs("start_units", "add_units", "end_units", "read_tt2000")
     def test_examples(self):
-        self.examples(uppinalo, 16)
+        self.examples(uppinalo, 18)
 
     @needs("read_datetime64", "write_datetime64")
     def test_examples_of_datetime64(self):

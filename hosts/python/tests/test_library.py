@@ -4,7 +4,7 @@ import ctypes
 import re
 import unittest
 
-from uppinalo import WORDS, Refused, _library
+from uppinalo import CUTOVER_1582, WORDS, Refused, _library
 from uppinalo._codes import Calendar, Mode, Period
 
 from .calls import LISTED, REPOSITORY
@@ -70,6 +70,10 @@ class Header(unittest.TestCase):
             self.assertEqual(len(argtypes), len(expected), name)
             for declared, kind in zip(argtypes, expected):
                 self.assertTrue(declared is kind or kind is None, name)
+
+    def test_cutover(self):
+        year, month, day = CUTOVER_1582
+        self.assertIn(f"#define UPPINALO_CUTOVER_1582 ((uppinalo_date){{{year}, {month}, {day}}})\n", HEADER)
 
     def test_codes(self):
         for codes in (Calendar, Period, Mode):

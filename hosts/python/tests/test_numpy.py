@@ -143,6 +143,15 @@ class Scalars(unittest.TestCase):
             with self.assertRaises(TypeError, msg=repr(wrong)):
                 days().read_run([wrong])
 
+    @needs("read_units", "read_wholes", "write_iso")
+    def test_the_english_cutover(self):
+        """From the cutover on, the instants are those of NumPy's dates."""
+        run = Axis("days since 1752-09-02", cutover=(1752, 9, 14)).read_run(numpy.arange(1, 60_000))
+        dates = numpy.arange("1752-09-14", 59_999, dtype="datetime64[D]")
+        numpy.testing.assert_array_equal(run.instants, dates.astype("datetime64[us]").astype(numpy.int64))
+        with self.assertRaises(ValueError):
+            run.datetime64()
+
     @needs("read_units", "write_instant", "fields_of", "read_wholes")
     def test_instants_of_an_array(self):
         instant = days().read_run(numpy.array([5])).instants[0]

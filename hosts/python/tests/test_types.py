@@ -53,6 +53,19 @@ class WrongTypes(unittest.TestCase):
         for date in (None, (2000, 1, 1), "2000-01-01", Fields(2000), [2000, 1, 1]):
             self.refused(day_of_date, date, Calendar.NOLEAP)
 
+    def test_cutovers(self):
+        day = datetime.datetime(1752, 9, 14)
+        for cutover in (1752, "1752-09-14", b"1752", day, [1752, 9, 14], (1752, 9), (1752.0, 9, 14), (1752, True, 14), Fields(1752), {}):
+            self.refused(Axis, "days since 1970", cutover=cutover)
+            self.refused(Axis.of, Calendar.NOLEAP, Period.DAY, Mode.FIXED, 0, cutover)
+            self.refused(read_iso, "1970", cutover=cutover)
+            self.refused(write_iso, 0, Calendar.NOLEAP, cutover=cutover)
+            self.refused(fields_of, 0, Calendar.NOLEAP, cutover=cutover)
+            self.refused(date_of_day, 0, Calendar.NOLEAP, cutover=cutover)
+            self.refused(day_of_date, Date(1970), Calendar.NOLEAP, cutover=cutover)
+            self.refused(UnitsReader, cutover=cutover)
+            self.refused(UnitsReader().end, cutover=cutover)
+
     def test_parts_of_an_axis(self):
         self.refused(Axis.of, Calendar.NOLEAP, 4, Mode.FIXED, 0)
         self.refused(Axis.of, Calendar.NOLEAP, Period.DAY, 0, 0)

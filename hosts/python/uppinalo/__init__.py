@@ -18,7 +18,7 @@ the library refuses is the exception ``Refused``, and what has the wrong type a 
 from ._axis import Axis
 from ._codes import Calendar, Mode, Period
 from ._datetime64 import read_datetime64, write_datetime64
-from ._instants import Date, Fields, Reading, calendar_of, date_of_day, day_of_date, fields_of, read_iso, write_iso
+from ._instants import CUTOVER_1582, Date, Fields, Reading, calendar_of, date_of_day, day_of_date, fields_of, read_iso, write_iso
 from ._leap_seconds import LeapSeconds, UtcFields
 from ._refused import WORDS, Refused
 from ._runs import Run
@@ -26,6 +26,7 @@ from ._units_reader import UnitsReader
 
 __all__ = [
     "Axis",
+    "CUTOVER_1582",
     "Calendar",
     "Date",
     "Fields",

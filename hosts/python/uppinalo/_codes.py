@@ -8,7 +8,8 @@ import enum
 class Calendar(enum.IntEnum):
     """A calendar. Its ``cf_name`` is the name by which the CF conventions know it.
 
-    ``STANDARD`` and ``JULIAN`` have no year 0: year 1 comes after -1. The others have one.
+    ``STANDARD`` and ``JULIAN`` have no year 0: year 1 comes after -1. The others have one. ``STANDARD`` is Julian up to its
+    cutover, which calls and axes are given; no other looks at it.
     """
 
     STANDARD = 0

@@ -13,12 +13,15 @@ from ctypes import POINTER, Structure, c_char_p, c_double, c_int64, c_size_t, c_
 from typing import Any
 
 
-class AxisCodes(Structure):
-    _fields_ = [("calendar", c_uint32), ("period", c_uint32), ("mode", c_uint32), ("reference", c_int64)]
-
-
 class DateNumbers(Structure):
     _fields_ = [("year", c_int64), ("month", c_uint32), ("day", c_uint32)]
+
+
+class AxisCodes(Structure):
+    _fields_ = [(name, c_uint32) for name in ("calendar", "period", "mode")] + [
+        ("reference", c_int64),
+        ("cutover", DateNumbers),
+    ]
 
 
 class FieldNumbers(Structure):
@@ -77,7 +80,7 @@ class Tt2000Answer(Structure):
     _fields_ = [("number", c_uint32), ("tt2000", c_int64)]
 
 
-_TEXTS = [c_char_p, c_size_t, c_char_p, c_size_t]
+_TEXTS = [c_char_p, c_size_t, DateNumbers, c_char_p, c_size_t]
 _RUN = [AxisCodes, c_void_p, c_size_t, c_void_p, c_size_t]
 _RECORDS = [c_char_p, c_size_t, c_void_p, c_size_t, c_void_p, c_size_t]
 
@@ -86,12 +89,12 @@ CALLS: dict[str, tuple[Any, list[Any]]] = {
     "read_units": (AxisAnswer, _TEXTS),
     "start_units": (UnitsState, []),
     "add_units": (c_uint32, [POINTER(UnitsState), c_void_p, c_size_t]),
-    "end_units": (AxisAnswer, [POINTER(UnitsState), c_char_p, c_size_t]),
+    "end_units": (AxisAnswer, [POINTER(UnitsState), c_char_p, c_size_t, DateNumbers]),
     "read_iso": (ReadingAnswer, _TEXTS),
-    "write_iso": (LengthAnswer, [c_uint32, c_int64, POINTER(c_uint8), c_size_t]),
-    "fields_of": (FieldsAnswer, [c_uint32, c_int64]),
-    "date_of_day": (DateAnswer, [c_uint32, c_int64]),
-    "day_of_date": (DayAnswer, [c_uint32, DateNumbers]),
+    "write_iso": (LengthAnswer, [c_uint32, DateNumbers, c_int64, POINTER(c_uint8), c_size_t]),
+    "fields_of": (FieldsAnswer, [c_uint32, DateNumbers, c_int64]),
+    "date_of_day": (DateAnswer, [c_uint32, DateNumbers, c_int64]),
+    "day_of_date": (DayAnswer, [c_uint32, DateNumbers, DateNumbers]),
     "read_whole": (ReadingAnswer, [AxisCodes, c_int64]),
     "read_double": (ReadingAnswer, [AxisCodes, c_double]),
     "write_instant": (OffsetAnswer, [AxisCodes, c_int64]),

@@ -18,9 +18,10 @@ WORDS = {
     10: "the record is not-a-time",
     11: "the fragments of the units text have ended, or the state is damaged",
     12: "the calendar has no such year or day, such as year 0 or 30 February: look whether it is the calendar that was meant",
-    13: "the calendar left this day out: in `standard` 1582-10-15 comes after 1582-10-04",
+    13: "the calendar left this day out: in `standard` a Julian date after the last day kept and before the cutover, by default 1582-10-05 to 1582-10-14",
     14: "the list of leap seconds is not good: 1 to 64 records of 16 bytes, the first day 730 with count 10, then later days, each count one more",
     15: "the time lies before 1972-01-01, where the list of leap seconds begins",
+    16: "the cutover is not allowed in `standard`: it must be a Gregorian date from 1582-10-15 to 1923-12-31, and the dates it drops must lie in one month and leave the first of it",
 }
 
 

@@ -8,6 +8,7 @@ import sys
 from typing import TYPE_CHECKING, Any, Iterable, Union
 
 from ._codes import Calendar
+from ._instants import CUTOVER_1582, Date
 from ._lent import Lent
 from ._numbers import MOST, double, is_whole, signed
 
@@ -30,6 +31,7 @@ class Run:
     rounded: int
     length: int
     calendar: Calendar
+    cutover: Date = CUTOVER_1582
 
     def __len__(self) -> int:
         return self.length

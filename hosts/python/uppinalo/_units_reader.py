@@ -6,7 +6,7 @@ from typing import TYPE_CHECKING, Any, Optional, Tuple, Type
 
 from ._axis import Axis, parts_read
 from ._codes import Calendar
-from ._instants import CalendarOrName, name_of
+from ._instants import CalendarOrName, Cutover, Date, cutover_numbers, date_of, name_of
 from ._lent import lent_bytes
 from ._library import UnitsState, call
 from ._numbers import encoded
@@ -37,10 +37,11 @@ class UnitsReader:
     ``pickle``, goes on alone from the fragments so far.
     """
 
-    __slots__ = ("_axis", "_calendar", "_refusal", "_state")
+    __slots__ = ("_axis", "_calendar", "_cutover", "_refusal", "_state")
 
-    def __init__(self, *, calendar: CalendarOrName = Calendar.STANDARD) -> None:
+    def __init__(self, *, calendar: CalendarOrName = Calendar.STANDARD, cutover: Cutover = None) -> None:
         self.calendar = calendar
+        self.cutover = cutover  # type: ignore[assignment]
         self._state: UnitsState = call["start_units"]()
         self._axis: Optional[Axis] = None
         self._refusal: Optional[Tuple[int, str]] = None
@@ -55,6 +56,15 @@ class UnitsReader:
         encoded(name_of(calendar), "a calendar")
         self._calendar = calendar
 
+    @property
+    def cutover(self) -> Date:
+        """The cutover of an end that is given none. It may be set until the end, to None for that of 1582."""
+        return self._cutover
+
+    @cutover.setter
+    def cutover(self, cutover: Cutover) -> None:
+        self._cutover = date_of(cutover_numbers(cutover))
+
     def add(self, fragment: ReadableBuffer) -> None:
         """Takes the next bytes of the text, or none, from anything bytes-like. They are read where they lie; bytes with gaps
         between them or in another order are copied first."""
@@ -63,15 +73,18 @@ class UnitsReader:
         if number:
             raise Refused(number, f"a fragment after {self._units()}")
 
-    def end(self, calendar: Optional[CalendarOrName] = None) -> Axis:
-        """Ends the text and gives its axis, in a calendar or, where none is given, in the reader's own."""
+    def end(self, calendar: Optional[CalendarOrName] = None, *, cutover: Cutover = None) -> Axis:
+        """Ends the text and gives its axis, in a calendar with a cutover or, where none is given, with the reader's own."""
         name = name_of(self.calendar if calendar is None else calendar)
-        name_bytes = encoded(name, "a calendar")
-        answer = call["end_units"](self._state, name_bytes, len(name_bytes))
-        subject = f"{self._units()}, calendar {name!r}"
-        if answer.number not in (0, 11):
-            self._refusal = answer.number, subject
-        self._axis = Axis.of(*parts_read(answer, subject))
+        name_bytes, given = encoded(name, "a calendar"), cutover_numbers(self.cutover if cutover is None else cutover)
+        answer = call["end_units"](self._state, name_bytes, len(name_bytes), given)
+        try:
+            parts = parts_read(answer, f"{self._units()}, calendar {name!r}", given)
+        except Refused as refusal:
+            if refusal.number != 11:
+                self._refusal = refusal.number, refusal.subject
+            raise
+        self._axis = Axis.of(*parts)
         return self._axis
 
     @property
@@ -95,10 +108,10 @@ class UnitsReader:
         return f"<UnitsReader: {self._units()}, calendar {name_of(self.calendar)!r}{ended}>"
 
     def __getstate__(self) -> Any:
-        return self._calendar, self._axis, self._refusal, bytes(self._state)
+        return self._calendar, self._cutover, self._axis, self._refusal, bytes(self._state)
 
     def __setstate__(self, state: Any) -> None:
-        self._calendar, self._axis, self._refusal, raw = state
+        self._calendar, self._cutover, self._axis, self._refusal, raw = state
         self._state = UnitsState.from_buffer_copy(raw)
 
     def _units(self) -> str:

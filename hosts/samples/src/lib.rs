@@ -2,6 +2,7 @@
 
 pub mod borders;
 pub mod calendar_steps;
+pub mod cutovers;
 pub mod damage;
 pub mod dates;
 pub mod datetime64;

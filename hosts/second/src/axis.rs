@@ -1,6 +1,6 @@
-//! Axes: a calendar, a period, a mode and a reference instant (document 01, "Instants and axes", "Periods").
+//! Axes: a calendar, a period, a mode, a reference instant and a cutover (document 01, "Instants and axes", "Periods"; document 02, CR 8).
 
-use crate::calendar::Calendar;
+use crate::calendar::{Calendar, Date};
 
 #[derive(Clone, Copy, PartialEq, Eq, Debug)]
 pub enum Period {
@@ -52,4 +52,6 @@ pub struct Axis {
     pub period: Period,
     pub mode: Mode,
     pub reference: i64,
+    /// As it was given; `standard` has the same in its calendar.
+    pub cutover: Date,
 }

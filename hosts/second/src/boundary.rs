@@ -1,7 +1,7 @@
 //! A counterpart for each call of the C boundary, with the same numbers in and out.
-//! A code that is none of the listed ones is refused before anything else: a calendar's, then a period's or a mode's.
+//! A code that is none of the listed ones is refused before anything else: a calendar's, then a period's or a mode's. Then a cutover is
+//! refused that is not allowed.
 
-use crate::calendar::Date;
 use crate::codes::*;
 use crate::days::date_of_day;
 use crate::fields::{Fields, UTC, tested_day};
@@ -10,8 +10,8 @@ use crate::refusal::Refusal;
 use crate::runs::Refused;
 use crate::{datetime64, fragments, instant, iso, reading, runs, tt2000, units_text, writing};
 
-pub fn read_units(calendar: &[u8], text: &[u8]) -> answers::AxisAnswer {
-    axis_answer(units_text::read_units(calendar, text))
+pub fn read_units(calendar: &[u8], cutover: answers::Date, text: &[u8]) -> answers::AxisAnswer {
+    axis_answer(units_text::read_units(calendar, date_of_numbers(cutover), text))
 }
 
 pub fn start_units() -> answers::UnitsState {
@@ -22,40 +22,40 @@ pub fn add_units(state: &mut answers::UnitsState, fragment: &[u8]) -> u32 {
     fragments::add(state, fragment).map_or_else(Refusal::number, |()| 0)
 }
 
-pub fn end_units(state: &mut answers::UnitsState, calendar: &[u8]) -> answers::AxisAnswer {
-    axis_answer(fragments::end(state, calendar))
+pub fn end_units(state: &mut answers::UnitsState, calendar: &[u8], cutover: answers::Date) -> answers::AxisAnswer {
+    axis_answer(fragments::end(state, calendar, date_of_numbers(cutover)))
 }
 
-pub fn read_iso(calendar: &[u8], text: &[u8]) -> answers::Reading {
-    reading_answer(iso::read_iso(calendar, text).map(|instant| Reading { instant, exact: true, days_back: 0 }))
+pub fn read_iso(calendar: &[u8], cutover: answers::Date, text: &[u8]) -> answers::Reading {
+    let instant = iso::read_iso(calendar, date_of_numbers(cutover), text);
+    reading_answer(instant.map(|instant| Reading { instant, exact: true, days_back: 0 }))
 }
 
-pub fn write_iso(calendar: u32, instant: i64, room: &mut [u8]) -> answers::LengthAnswer {
-    match calendar_of(calendar).and_then(|calendar| iso::write_iso(calendar, instant, room)) {
+pub fn write_iso(calendar: u32, cutover: answers::Date, instant: i64, room: &mut [u8]) -> answers::LengthAnswer {
+    match calendar_of(calendar, cutover).and_then(|calendar| iso::write_iso(calendar, instant, room)) {
         Ok(length) => answers::LengthAnswer { number: 0, length },
         Err(refusal) => answers::LengthAnswer { number: refusal.number(), ..Default::default() },
     }
 }
 
-pub fn fields_of(calendar: u32, instant: i64) -> answers::FieldsAnswer {
-    match calendar_of(calendar).and_then(|calendar| instant::fields_of(calendar, instant)) {
+pub fn fields_of(calendar: u32, cutover: answers::Date, instant: i64) -> answers::FieldsAnswer {
+    match calendar_of(calendar, cutover).and_then(|calendar| instant::fields_of(calendar, instant)) {
         Ok(fields) => answers::FieldsAnswer { number: 0, fields: field_numbers(fields) },
         Err(refusal) => answers::FieldsAnswer { number: refusal.number(), ..Default::default() },
     }
 }
 
-pub fn date_of_day_number(calendar: u32, day: i64) -> answers::DateAnswer {
+pub fn date_of_day_number(calendar: u32, cutover: answers::Date, day: i64) -> answers::DateAnswer {
     let date = |calendar| date_of_day(calendar, day as i128).ok_or(Refusal::OutOfRange);
-    match calendar_of(calendar).and_then(date) {
+    match calendar_of(calendar, cutover).and_then(date) {
         Ok(date) => answers::DateAnswer { number: 0, date: date_numbers(date) },
         Err(refusal) => answers::DateAnswer { number: refusal.number(), ..Default::default() },
     }
 }
 
-pub fn day_number_of_date(calendar: u32, date: answers::Date) -> answers::DayAnswer {
-    let answers::Date { year, month, day } = date;
-    let midnight = Fields::midnight(Date::new(year, month, day));
-    match calendar_of(calendar).and_then(|calendar| tested_day(calendar, midnight, UTC)) {
+pub fn day_number_of_date(calendar: u32, cutover: answers::Date, date: answers::Date) -> answers::DayAnswer {
+    let midnight = Fields::midnight(date_of_numbers(date));
+    match calendar_of(calendar, cutover).and_then(|calendar| tested_day(calendar, midnight, UTC)) {
         Ok(day) => answers::DayAnswer { number: 0, day },
         Err(refusal) => answers::DayAnswer { number: refusal.number(), ..Default::default() },
     }

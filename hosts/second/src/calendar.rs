@@ -1,8 +1,12 @@
-//! The six calendars, their names, and how long their months are (document 01, "Calendars").
+//! The six calendars, their names, and how long their months are (document 01, "Calendars"; document 02, CR 8).
+
+use crate::cutover::{Cutover, OF_1582};
+use crate::refusal::Refusal;
 
 #[derive(Clone, Copy, PartialEq, Eq, Debug)]
 pub enum Calendar {
-    Standard,
+    /// With its cutover.
+    Standard(Cutover),
     ProlepticGregorian,
     Julian,
     Noleap,
@@ -10,16 +14,35 @@ pub enum Calendar {
     Day360,
 }
 
-pub const CALENDARS: [Calendar; 6] = [
-    Calendar::Standard,
-    Calendar::ProlepticGregorian,
-    Calendar::Julian,
-    Calendar::Noleap,
-    Calendar::AllLeap,
-    Calendar::Day360,
-];
+/// `standard` with the cutover of 1582.
+pub const STANDARD: Calendar = Calendar::Standard(OF_1582);
 
-#[derive(Clone, Copy, PartialEq, Eq, Debug)]
+pub const CALENDARS: [Calendar; 6] =
+    [STANDARD, Calendar::ProlepticGregorian, Calendar::Julian, Calendar::Noleap, Calendar::AllLeap, Calendar::Day360];
+
+impl Calendar {
+    pub fn code(self) -> u32 {
+        match self {
+            Calendar::Standard(_) => 0,
+            Calendar::ProlepticGregorian => 1,
+            Calendar::Julian => 2,
+            Calendar::Noleap => 3,
+            Calendar::AllLeap => 4,
+            Calendar::Day360 => 5,
+        }
+    }
+
+    /// The calendar with a cutover, at which `standard` alone looks.
+    pub fn with_cutover(self, first: Date) -> Result<Calendar, Refusal> {
+        match self {
+            Calendar::Standard(_) => Cutover::of_date(first).map(Calendar::Standard),
+            _ => Ok(self),
+        }
+    }
+}
+
+/// Dates are compared as they are written.
+#[derive(Clone, Copy, PartialEq, Eq, PartialOrd, Ord, Debug)]
 pub struct Date {
     pub year: i64,
     pub month: u32,
@@ -32,10 +55,10 @@ impl Date {
     }
 }
 
-/// The calendar that a name stands for; upper and lower case differ.
+/// The calendar that a name stands for, `standard` with the cutover of 1582; upper and lower case differ.
 pub fn calendar_named(name: &[u8]) -> Option<Calendar> {
     match name {
-        b"" | b"standard" | b"gregorian" => Some(Calendar::Standard),
+        b"" | b"standard" | b"gregorian" => Some(STANDARD),
         b"proleptic_gregorian" | b"ISO8601" => Some(Calendar::ProlepticGregorian),
         b"julian" => Some(Calendar::Julian),
         b"noleap" | b"no_leap" | b"365_day" => Some(Calendar::Noleap),
@@ -54,11 +77,12 @@ fn is_gregorian_leap(year: i64) -> bool {
     year.rem_euclid(4) == 0 && year.rem_euclid(100) != 0 || year.rem_euclid(400) == 0
 }
 
-fn is_leap(calendar: Calendar, year: i64) -> bool {
+/// Whether a date's year is a leap year, by the rule that holds on that date.
+fn is_leap(calendar: Calendar, date: Date) -> bool {
     match calendar {
-        Calendar::Standard if year > 1582 => is_gregorian_leap(year),
-        Calendar::Standard | Calendar::Julian => is_julian_leap(year),
-        Calendar::ProlepticGregorian => is_gregorian_leap(year),
+        Calendar::Standard(cutover) if date >= cutover.first => is_gregorian_leap(date.year),
+        Calendar::Standard(_) | Calendar::Julian => is_julian_leap(date.year),
+        Calendar::ProlepticGregorian => is_gregorian_leap(date.year),
         Calendar::Noleap | Calendar::Day360 => false,
         Calendar::AllLeap => true,
     }
@@ -67,14 +91,14 @@ fn is_leap(calendar: Calendar, year: i64) -> bool {
 const COMMON: [u32; 12] = [31, 28, 31, 30, 31, 30, 31, 31, 30, 31, 30, 31];
 const LEAP: [u32; 12] = [31, 29, 31, 30, 31, 30, 31, 31, 30, 31, 30, 31];
 
-/// The number of a month's last day.
-pub fn last_day_of_month(calendar: Calendar, year: i64, month: u32) -> u32 {
+/// The number of the last day of a date's month, by the rule that holds on that date.
+pub fn last_day_of_month(calendar: Calendar, date: Date) -> u32 {
     let lengths = if calendar == Calendar::Day360 {
         [30; 12]
-    } else if is_leap(calendar, year) {
+    } else if is_leap(calendar, date) {
         LEAP
     } else {
         COMMON
     };
-    lengths[month as usize - 1]
+    lengths[date.month as usize - 1]
 }

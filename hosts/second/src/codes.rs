@@ -7,24 +7,31 @@ use crate::reading::Reading;
 use crate::refusal::Refusal;
 use crate::runs::{Counts, Refused};
 
-pub fn calendar_of(code: u32) -> Result<Calendar, Refusal> {
+/// The calendar of a code, whatever its cutover.
+fn known_calendar(code: u32) -> Result<Calendar, Refusal> {
     CALENDARS.get(code as usize).copied().ok_or(Refusal::UnknownCalendar)
 }
 
+pub fn calendar_of(code: u32, cutover: answers::Date) -> Result<Calendar, Refusal> {
+    known_calendar(code)?.with_cutover(date_of_numbers(cutover))
+}
+
 pub fn axis_of(codes: answers::Axis) -> Result<Axis, Refusal> {
-    let calendar = calendar_of(codes.calendar)?;
+    let calendar = known_calendar(codes.calendar)?;
     let period = PERIODS.get(codes.period as usize).copied().ok_or(Refusal::IllFormed)?;
     let mode = match codes.mode {
         0 => Mode::Fixed,
         1 => Mode::Calendar,
         _ => return Err(Refusal::IllFormed),
     };
-    Ok(Axis { calendar, period, mode, reference: codes.reference })
+    let cutover = date_of_numbers(codes.cutover);
+    Ok(Axis { calendar: calendar.with_cutover(cutover)?, period, mode, reference: codes.reference, cutover })
 }
 
 fn axis_codes(axis: Axis) -> answers::Axis {
-    let Axis { calendar, period, mode, reference } = axis;
-    answers::Axis { calendar: calendar as u32, period: period as u32, mode: mode as u32, reference }
+    let Axis { calendar, period, mode, reference, cutover } = axis;
+    let [calendar, period, mode] = [calendar.code(), period as u32, mode as u32];
+    answers::Axis { calendar, period, mode, reference, cutover: date_numbers(cutover) }
 }
 
 pub fn axis_answer(result: Result<Axis, Refusal>) -> answers::AxisAnswer {
@@ -37,6 +44,10 @@ pub fn axis_answer(result: Result<Axis, Refusal>) -> answers::AxisAnswer {
 pub fn date_numbers(date: Date) -> answers::Date {
     let Date { year, month, day } = date;
     answers::Date { year, month, day }
+}
+
+pub fn date_of_numbers(numbers: answers::Date) -> Date {
+    Date::new(numbers.year, numbers.month, numbers.day)
 }
 
 pub fn field_numbers(fields: Fields) -> answers::Fields {

@@ -5,6 +5,7 @@
 use crate::axis::{Axis, Mode, Period};
 use crate::calendar::Calendar;
 use crate::calendar_mode::{moved_by_months, moved_by_years};
+use crate::cutover::OF_1582;
 use crate::datetime64_type::{Datetime64Type, Unit, type_named};
 use crate::instant::{fields_of, instant_of_count};
 use crate::refusal::Refusal;
@@ -30,7 +31,8 @@ pub fn read_number(unit: Unit, number: i64) -> Result<i64, Refusal> {
     if number == NOT_A_TIME {
         return Err(Refusal::NotATime);
     }
-    let from_1970 = |period| Axis { calendar: CALENDAR, period, mode: Mode::Calendar, reference: 0 };
+    let mode = Mode::Calendar;
+    let from_1970 = |period| Axis { calendar: CALENDAR, period, mode, reference: 0, cutover: OF_1582.first };
     let count = match unit {
         Unit::Year => moved_by_years(from_1970(Period::Year), number)?.count,
         Unit::Month => moved_by_months(from_1970(Period::Month), number)?.count,

@@ -4,7 +4,7 @@
 
 use crate::calendar::{CALENDARS, Calendar, Date};
 use crate::days::day_of_date;
-use crate::next_day::{day_after, dropped};
+use crate::next_day::day_after;
 use crate::refusal::Refusal;
 use std::collections::BTreeSet;
 use std::sync::OnceLock;
@@ -88,8 +88,10 @@ pub fn possible(date: Date, is_beside_possible: bool) -> Result<(), Refusal> {
 
 /// Why a calendar has no such date, whose month and day are possible.
 pub fn lack(calendar: Calendar, date: Date) -> Refusal {
-    let is_dropped = calendar == Calendar::Standard && dropped().any(|other| other == date);
-    if is_dropped { Refusal::DroppedDate } else { Refusal::MissingDate }
+    match calendar {
+        Calendar::Standard(cutover) if cutover.dropped().any(|dropped| dropped == date) => Refusal::DroppedDate,
+        _ => Refusal::MissingDate,
+    }
 }
 
 /// The day number of a local time's date. A year past the range is refused first, then any field that is not possible, then a date that

@@ -2,6 +2,7 @@
 //! puts the text together again and reads it.
 
 use crate::axis::Axis;
+use crate::calendar::Date;
 use crate::refusal::Refusal;
 use crate::units_text::{MOST_BYTES, read_units};
 use answers::UnitsState;
@@ -40,8 +41,8 @@ fn text(state: &UnitsState) -> Vec<u8> {
     (0..state.count).map(byte).collect()
 }
 
-pub fn end(state: &mut UnitsState, calendar_name: &[u8]) -> Result<Axis, Refusal> {
+pub fn end(state: &mut UnitsState, calendar_name: &[u8], cutover: Date) -> Result<Axis, Refusal> {
     tested(state)?;
     state.ended = 1;
-    read_units(calendar_name, &text(state))
+    read_units(calendar_name, cutover, &text(state))
 }

@@ -1,14 +1,14 @@
 //! ISO text read and written (document 01, "The units text").
 
-use crate::calendar::Calendar;
+use crate::calendar::{Calendar, Date};
 use crate::date_text::date;
 use crate::instant::fields_of;
 use crate::refusal::Refusal;
 use crate::units_text::opened;
 use crate::ways::complete;
 
-pub fn read_iso(calendar_name: &[u8], text: &[u8]) -> Result<i64, Refusal> {
-    let calendar = opened(calendar_name, text)?;
+pub fn read_iso(calendar_name: &[u8], cutover: Date, text: &[u8]) -> Result<i64, Refusal> {
+    let calendar = opened(calendar_name, cutover, text)?;
     let written = complete(date(text)).pop().ok_or(Refusal::IllFormed)?;
     written.instant(calendar)
 }

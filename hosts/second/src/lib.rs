@@ -1,7 +1,8 @@
 //! The rules of documents 01 and 02 that the proved library keeps, implemented a second time by other means, so that the two can be
 //! compared.
 //!
-//! - Day numbers come from a table that the next-day rule fills day by day (`days`).
+//! - Day numbers come from tables that the next-day rule fills day by day (`days`).
+//! - The last day before a cutover is found by stepping both calendars together, and the dropped dates by stepping on (`cutover`).
 //! - A day of the month that a calendar step does not find is stepped back day by day, and the steps are counted (`calendar_mode`).
 //! - The months and days that are possible are those that a walk through the calendars meets (`fields`).
 //! - A double is an exact fraction of big integers (`dyadic`), and rounding compares exact remainders (`nearest`).
@@ -17,6 +18,7 @@ pub mod boundary;
 pub mod calendar;
 pub mod calendar_mode;
 pub mod codes;
+pub mod cutover;
 pub mod date_text;
 pub mod datetime64;
 pub mod datetime64_type;

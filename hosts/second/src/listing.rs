@@ -1,5 +1,6 @@
 //! The listing program's answers (document 01, "The listing program").
 
+use crate::cutover::OF_1582;
 use crate::iso::iso_text;
 use crate::reading::{read_double, read_whole};
 use crate::refusal::Refusal;
@@ -44,7 +45,7 @@ fn shown(line: &[u8]) -> Result<String, Refusal> {
         return Err(Refusal::IllFormed);
     };
     let offset = offset(last).ok_or(Refusal::IllFormed)?;
-    let axis = read_units(calendar, units)?;
+    let axis = read_units(calendar, OF_1582.first, units)?;
     let reading = match offset {
         Offset::Whole(offset) => read_whole(axis, offset)?,
         Offset::Double(offset) => read_double(axis, offset)?,

@@ -17,6 +17,7 @@ pub enum Refusal {
     DroppedDate = 13,
     BadLeapSeconds = 14,
     Before1972 = 15,
+    CutoverNotAllowed = 16,
 }
 
 impl Refusal {

@@ -49,7 +49,7 @@ pub fn write(leap_seconds: &[u8], fields: UtcFields) -> Result<i64, Refusal> {
     let listed = LeapSeconds::listed(leap_seconds)?;
     let date = Date::new(fields.year, fields.month, fields.day);
     possible(date, has_possible_clock(&listed, date, fields))?;
-    if date.day > last_day_of_month(CALENDAR, date.year, date.month) {
+    if date.day > last_day_of_month(CALENDAR, date) {
         return Err(lack(CALENDAR, date));
     }
     if date.year < 1972 {

@@ -1,7 +1,7 @@
 //! The units text (document 01, "The units text").
 
 use crate::axis::{Axis, Mode, Period};
-use crate::calendar::{Calendar, calendar_named};
+use crate::calendar::{Calendar, Date, calendar_named};
 use crate::date_text::{WrittenDate, date};
 use crate::refusal::Refusal;
 use crate::ways::{Ways, complete, either, map, maybe, spaces, then, word, word_in_any_case};
@@ -63,15 +63,15 @@ pub fn meanings(text: &[u8]) -> Vec<WrittenUnits> {
 }
 
 /// What a text must pass before its grammar is asked.
-pub fn opened(calendar_name: &[u8], text: &[u8]) -> Result<Calendar, Refusal> {
+pub fn opened(calendar_name: &[u8], cutover: Date, text: &[u8]) -> Result<Calendar, Refusal> {
     if text.len() > MOST_BYTES {
         return Err(Refusal::TextTooLong);
     }
-    calendar_named(calendar_name).ok_or(Refusal::UnknownCalendar)
+    calendar_named(calendar_name).ok_or(Refusal::UnknownCalendar)?.with_cutover(cutover)
 }
 
-pub fn read_units(calendar_name: &[u8], text: &[u8]) -> Result<Axis, Refusal> {
-    let calendar = opened(calendar_name, text)?;
+pub fn read_units(calendar_name: &[u8], cutover: Date, text: &[u8]) -> Result<Axis, Refusal> {
+    let calendar = opened(calendar_name, cutover, text)?;
     let WrittenUnits { mode, period, date } = meanings(text).pop().ok_or(Refusal::IllFormed)?;
-    Ok(Axis { calendar, period, mode, reference: date.instant(calendar)? })
+    Ok(Axis { calendar, period, mode, reference: date.instant(calendar)?, cutover })
 }

@@ -1,7 +1,8 @@
 //! The cases by hand of document 01 with the numbers of document 02, and the years of `julian` before year 1 (document 02, CR 2).
 
 use second::axis::{Axis, Mode, Period};
-use second::calendar::{Calendar, Date};
+use second::calendar::{Date, STANDARD};
+use second::cutover::OF_1582;
 use second::fields::Fields;
 use second::instant::fields_of;
 use second::iso::{iso_text, read_iso};
@@ -11,7 +12,7 @@ use second::units_text::read_units;
 use second::writing::{write_fields, write_instant};
 
 fn axis(calendar: &str, units: &str) -> Axis {
-    read_units(calendar.as_bytes(), units.as_bytes()).expect(units)
+    read_units(calendar.as_bytes(), OF_1582.first, units.as_bytes()).expect(units)
 }
 
 /// The ISO text of a whole offset on an axis.
@@ -51,14 +52,14 @@ fn years_of_julian() {
     expect("julian", "calendar years since -5-02-29", 5, "0001-02-28");
     expect("julian", "calendar months since -1-12-31", 2, "0001-02-28");
     let written = |units, text: &str| {
-        let instant = read_iso(b"julian", text.as_bytes())?;
+        let instant = read_iso(b"julian", OF_1582.first, text.as_bytes())?;
         write_instant(axis("julian", units), instant)
     };
     assert_eq!(written("days since 1-01-01", "-1-12-31"), Ok(-1));
     assert_eq!(written("calendar years since 1-06-15", "-2-06-15"), Ok(-2));
     assert_eq!(written("days since 1970-01-01", "-9999-01-01"), Ok(-4_371_312));
     assert_eq!(written("days since 1970-01-01", "0000-01-01"), Err(Refusal::MissingDate));
-    assert_eq!(read_units(b"julian", b"days since 0000-01-01").unwrap_err().number(), 12);
+    assert_eq!(read_units(b"julian", OF_1582.first, b"days since 0000-01-01").unwrap_err().number(), 12);
 }
 
 #[test]
@@ -96,7 +97,7 @@ fn last_days() {
 #[test]
 fn written_months() {
     let axis = axis("standard", "calendar months since 1930-01-31");
-    let at = |text: &str| read_iso(b"standard", text.as_bytes()).unwrap();
+    let at = |text: &str| read_iso(b"standard", OF_1582.first, text.as_bytes()).unwrap();
     assert_eq!(write_instant(axis, at("1930-02-28")), Ok(1));
     assert_eq!(write_instant(axis, at("1930-02-27")), Err(Refusal::Inexact));
     let midnight = |day| Fields::midnight(Date::new(1930, 2, day));
@@ -106,7 +107,7 @@ fn written_months() {
 
 #[test]
 fn refused_units() {
-    let refused = |text: &str| read_units(b"standard", text.as_bytes()).unwrap_err().number();
+    let refused = |text: &str| read_units(b"standard", OF_1582.first, text.as_bytes()).unwrap_err().number();
     assert_eq!(refused("days since 1582-10-05"), 13);
     assert_eq!(refused("ss since 1970"), 3);
     assert_eq!(refused("days since 1970-01-01Z"), 3);
@@ -115,10 +116,10 @@ fn refused_units() {
 /// The slips that document 01 names at its end.
 #[test]
 fn slips() {
-    assert_eq!(fields_of(Calendar::Standard, -1).unwrap().date, Date::new(1969, 12, 31));
+    assert_eq!(fields_of(STANDARD, -1).unwrap().date, Date::new(1969, 12, 31));
     expect("standard", "calendar months since 1930-01-31", 2, "1930-03-31");
     expect("standard", "calendar years since -1-06-01", 1, "0001-06-01");
     expect("standard", "calendar months since 1930-03-01 00:30 +01:00", 1, "1930-03-28T23:30:00.000000Z");
-    let year = Axis { calendar: Calendar::Standard, period: Period::Year, mode: Mode::Calendar, reference: 0 };
-    assert_eq!(write_instant(year, read_iso(b"", b"-1-01-01").unwrap()), Ok(-1970));
+    let year = Axis { period: Period::Year, mode: Mode::Calendar, ..axis("standard", "s since 1970") };
+    assert_eq!(write_instant(year, read_iso(b"", OF_1582.first, b"-1-01-01").unwrap()), Ok(-1970));
 }

@@ -2,6 +2,7 @@
 
 use answers::RunAnswer;
 use second::boundary::{read_datetime64, write_datetime64};
+use second::cutover::OF_1582;
 use second::datetime64::{read_number, write_instant};
 use second::datetime64_type::{UNITS, Unit, meanings};
 use second::iso::read_iso;
@@ -12,7 +13,7 @@ fn unit(code: &str) -> Unit {
 }
 
 fn at(text: &str) -> i64 {
-    read_iso(b"proleptic_gregorian", text.as_bytes()).expect(text)
+    read_iso(b"proleptic_gregorian", OF_1582.first, text.as_bytes()).expect(text)
 }
 
 fn refused(number: u32, place: usize) -> RunAnswer {

@@ -1,15 +1,15 @@
 //! How far a day of the month is stepped back: by months and by years, at the ends of February, in October 1582, and where it is 0.
 
-use answers::{Axis, Reading};
+use answers::{Axis, CUTOVER_1582, Reading};
 use second::boundary::*;
-use second::calendar::{CALENDARS, Calendar, Calendar::*};
+use second::calendar::{CALENDARS, Calendar, Calendar::*, STANDARD};
 use second::iso::iso_text;
 
 const NAMES: [&str; 6] = ["standard", "proleptic_gregorian", "julian", "noleap", "all_leap", "360_day"];
 const OTHERS: [Calendar; 5] = [ProlepticGregorian, Julian, Noleap, AllLeap, Day360];
 
 fn axis(calendar: Calendar, units: &str) -> Axis {
-    let answer = read_units(NAMES[calendar as usize].as_bytes(), units.as_bytes());
+    let answer = read_units(NAMES[calendar.code() as usize].as_bytes(), CUTOVER_1582, units.as_bytes());
     assert_eq!(answer.number, 0, "{units}");
     answer.axis
 }
@@ -28,11 +28,11 @@ fn step(calendar: Calendar, units: &str, offset: i64, date: &str, days_back: u32
 
 /// The last day of February in a year of each calendar.
 const FEBRUARIES: [(Calendar, &str, u32); 17] = [
-    (Standard, "2000", 29),
-    (Standard, "1900", 28),
-    (Standard, "1500", 29),
-    (Standard, "-0001", 29),
-    (Standard, "-0004", 28),
+    (STANDARD, "2000", 29),
+    (STANDARD, "1900", 28),
+    (STANDARD, "1500", 29),
+    (STANDARD, "-0001", 29),
+    (STANDARD, "-0004", 28),
     (ProlepticGregorian, "2000", 29),
     (ProlepticGregorian, "1900", 28),
     (ProlepticGregorian, "1500", 28),
@@ -66,7 +66,7 @@ fn a_month_from_the_end_of_january_and_back_from_that_of_march() {
 fn months_of_a_year() {
     for (offset, last) in (1..).zip([28, 31, 30, 31, 30, 31, 31, 30, 31, 30, 31]) {
         let date = format!("1930-{:02}-{last}", offset + 1);
-        for calendar in [Standard, ProlepticGregorian, Julian, Noleap] {
+        for calendar in [STANDARD, ProlepticGregorian, Julian, Noleap] {
             step(calendar, "calendar months since 1930-01-31", offset, &date, 31 - last);
             step(calendar, "calendar months since 1931-12-31", offset - 23, &date, 31 - last);
         }
@@ -77,14 +77,14 @@ fn months_of_a_year() {
 #[test]
 fn years_from_29_february() {
     for (calendar, year, offset, date, days_back) in [
-        (Standard, "2000", 1, "2001-02-28", 1),
-        (Standard, "2000", 4, "2004-02-29", 0),
-        (Standard, "2000", -100, "1900-02-28", 1),
-        (Standard, "1500", 100, "1600-02-29", 0),
-        (Standard, "-5", 4, "-0001-02-29", 0),
-        (Standard, "-5", 5, "0001-02-28", 1),
-        (Standard, "4", -4, "-0001-02-29", 0),
-        (Standard, "4", -5, "-0002-02-28", 1),
+        (STANDARD, "2000", 1, "2001-02-28", 1),
+        (STANDARD, "2000", 4, "2004-02-29", 0),
+        (STANDARD, "2000", -100, "1900-02-28", 1),
+        (STANDARD, "1500", 100, "1600-02-29", 0),
+        (STANDARD, "-5", 4, "-0001-02-29", 0),
+        (STANDARD, "-5", 5, "0001-02-28", 1),
+        (STANDARD, "4", -4, "-0001-02-29", 0),
+        (STANDARD, "4", -5, "-0002-02-28", 1),
         (ProlepticGregorian, "4", -4, "0000-02-29", 0),
         (ProlepticGregorian, "4", -5, "-0001-02-28", 1),
         (Julian, "1900", 100, "2000-02-29", 0),
@@ -108,22 +108,22 @@ fn october_1582() {
         for day in 1..=30 {
             let units = format!("calendar {period} since {month}-{day}");
             let (given, days_back) = if (5..15).contains(&day) { (4, day - 4) } else { (day, 0) };
-            step(Standard, &units, offset, &format!("1582-10-{given:02}"), days_back);
+            step(STANDARD, &units, offset, &format!("1582-10-{given:02}"), days_back);
             for calendar in OTHERS {
                 step(calendar, &units, offset, &format!("1582-10-{day:02}"), 0);
             }
         }
     }
-    step(Standard, "calendar months since 1582-08-31", 2, "1582-10-31", 0);
-    step(Standard, "calendar months since 1582-10-31", 1, "1582-11-30", 1);
-    step(Standard, "calendar years since 1581-10-14", 1, "1582-10-04", 10);
-    step(Standard, "calendar years since 1581-10-14", 2, "1583-10-14", 0);
-    step(Standard, "calendar months since -9999-01-14", 138_969, "1582-10-04", 10);
+    step(STANDARD, "calendar months since 1582-08-31", 2, "1582-10-31", 0);
+    step(STANDARD, "calendar months since 1582-10-31", 1, "1582-11-30", 1);
+    step(STANDARD, "calendar years since 1581-10-14", 1, "1582-10-04", 10);
+    step(STANDARD, "calendar years since 1581-10-14", 2, "1583-10-14", 0);
+    step(STANDARD, "calendar months since -9999-01-14", 138_969, "1582-10-04", 10);
 }
 
 #[test]
 fn ends_of_the_range() {
-    for calendar in [Standard, ProlepticGregorian, Julian, Noleap] {
+    for calendar in [STANDARD, ProlepticGregorian, Julian, Noleap] {
         step(calendar, "calendar months since 9999-12-31", -1, "9999-11-30", 1);
         step(calendar, "calendar months since 9999-10-31", 1, "9999-11-30", 1);
         step(calendar, "calendar months since 9999-12-31", -10, "9999-02-28", 3);
@@ -135,21 +135,22 @@ fn ends_of_the_range() {
 
 #[test]
 fn the_time_of_day_does_not_count() {
-    step(Standard, "calendar months since 1930-01-31T23:59:59.999999", 1, "1930-02-28", 3);
-    step(Standard, "calendar months since 1930-03-01 00:30 +01:00", 12, "1931-02-28", 0);
-    step(Standard, "calendar months since 1930-02-01 00:30 +01:00", 1, "1930-02-28", 3);
+    step(STANDARD, "calendar months since 1930-01-31T23:59:59.999999", 1, "1930-02-28", 3);
+    step(STANDARD, "calendar months since 1930-03-01 00:30 +01:00", 12, "1931-02-28", 0);
+    step(STANDARD, "calendar months since 1930-02-01 00:30 +01:00", 1, "1930-02-28", 3);
 }
 
 /// The asked day less the given one, and its bounds, from every day of some years to the months and years around.
 #[test]
 fn asked_day_less_given_day() {
-    let day = |calendar, instant| fields_of(calendar, instant).fields;
+    let day = |calendar, instant| fields_of(calendar, CUTOVER_1582, instant).fields;
     for calendar in 0..6 {
-        let start = |year| read_iso(NAMES[calendar as usize].as_bytes(), format!("{year}").as_bytes()).instant;
+        let start =
+            |year| read_iso(NAMES[calendar as usize].as_bytes(), CUTOVER_1582, format!("{year}").as_bytes()).instant;
         let mut most = [0; 2];
         for reference in (start(1579)..start(1585)).step_by(86_400_000_000) {
             for (period, offset) in (-14..=14).map(|months| (6, months)).chain((-3..=3).map(|years| (7, years))) {
-                let reading = read_whole(Axis { calendar, period, mode: 1, reference }, offset);
+                let reading = read_whole(Axis { calendar, period, mode: 1, reference, ..Axis::default() }, offset);
                 let (asked, given) = (day(calendar, reference), day(calendar, reading.instant));
                 assert_eq!(asked.day - given.day, reading.days_back);
                 let is_cutover = (given.year, given.month) == (1582, 10);
@@ -163,16 +164,16 @@ fn asked_day_less_given_day() {
 
 #[test]
 fn zero_in_fixed_mode_and_in_shorter_periods() {
-    step(Standard, "months since 1930-01-31", 1, "1930-03-02", 0);
-    step(Standard, "months since 1582-09-10", 1, "1582-10-20", 0);
-    step(Standard, "years since 2000-02-29", 1, "2001-02-28", 0);
-    step(Standard, "days since 1930-01-31", 28, "1930-02-28", 0);
+    step(STANDARD, "months since 1930-01-31", 1, "1930-03-02", 0);
+    step(STANDARD, "months since 1582-09-10", 1, "1582-10-20", 0);
+    step(STANDARD, "years since 2000-02-29", 1, "2001-02-28", 0);
+    step(STANDARD, "days since 1930-01-31", 28, "1930-02-28", 0);
     for (period, offset) in [("days", 28), ("weeks", 4), ("hours", 672), ("s", 2_419_200), ("msecs", 2_419_200_000)] {
-        step(Standard, &format!("calendar {period} since 1930-01-31"), offset, "1930-02-28", 0);
+        step(STANDARD, &format!("calendar {period} since 1930-01-31"), offset, "1930-02-28", 0);
     }
-    step(Standard, "calendar days since 1582-09-14", 20, "1582-10-04", 0);
+    step(STANDARD, "calendar days since 1582-09-14", 20, "1582-10-04", 0);
     for text in ["1930-02-28", "1582-10-04", "2001-02-28T12:00+01:00"] {
-        let answer = read_iso(b"", text.as_bytes());
+        let answer = read_iso(b"", CUTOVER_1582, text.as_bytes());
         assert_eq!((answer.number, answer.exact, answer.days_back), (0, 1, 0));
     }
 }
@@ -180,7 +181,7 @@ fn zero_in_fixed_mode_and_in_shorter_periods() {
 #[test]
 fn zero_beside_a_refusal() {
     let refused = |number| Reading { number, ..Default::default() };
-    let months = axis(Standard, "calendar months since 9999-12-31");
+    let months = axis(STANDARD, "calendar months since 9999-12-31");
     assert_eq!(read_whole(months, 2), refused(5));
     assert_eq!(read_whole(months, i64::MIN), refused(5));
     assert_eq!(read_double(months, 2.0), refused(5));
@@ -190,6 +191,6 @@ fn zero_beside_a_refusal() {
     assert_eq!(read_whole(Axis { calendar: 6, ..months }, -1), refused(2));
     assert_eq!(read_whole(Axis { period: 8, ..months }, -1), refused(3));
     for (text, number) in [("1930-02-31", 12), ("1582-10-14", 13), ("1930-01-32", 4), ("1930-01-31Z", 3)] {
-        assert_eq!(read_iso(b"", text.as_bytes()), refused(number));
+        assert_eq!(read_iso(b"", CUTOVER_1582, text.as_bytes()), refused(number));
     }
 }

@@ -2,6 +2,7 @@
 
 use second::axis::{Axis, Mode, Period};
 use second::calendar::Calendar;
+use second::cutover::OF_1582;
 use second::dyadic::Dyadic;
 use second::integer::Integer;
 use second::reading::{Reading, read_double, read_whole};
@@ -43,7 +44,7 @@ fn value_is_that_of_the_bits() {
 }
 
 fn axis(period: Period, mode: Mode, reference: i64) -> Axis {
-    Axis { calendar: Calendar::ProlepticGregorian, period, mode, reference }
+    Axis { calendar: Calendar::ProlepticGregorian, period, mode, reference, cutover: OF_1582.first }
 }
 
 fn reading(instant: i64, exact: bool) -> Reading {

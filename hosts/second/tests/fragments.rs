@@ -1,6 +1,6 @@
 //! A units text in fragments: where it is cut, how long it gets, what comes after the end, and damaged states.
 
-use answers::{AxisAnswer, UnitsState};
+use answers::{AxisAnswer, CUTOVER_1582, UnitsState};
 use second::boundary::{add_units, end_units, read_units, start_units};
 
 /// A state to which fragments were added.
@@ -23,8 +23,8 @@ fn not_open(state: UnitsState) {
     let mut kept = state;
     assert_eq!(add_units(&mut kept, b"s since 1970"), 11);
     assert_eq!(add_units(&mut kept, b""), 11);
-    assert_eq!(end_units(&mut kept, b"noleap"), refused(11));
-    assert_eq!(end_units(&mut kept, b"tai"), refused(11));
+    assert_eq!(end_units(&mut kept, b"noleap", CUTOVER_1582), refused(11));
+    assert_eq!(end_units(&mut kept, b"tai", CUTOVER_1582), refused(11));
     assert_eq!(kept, state);
 }
 
@@ -42,19 +42,19 @@ fn cut_anywhere() {
         assert_eq!(state.bytes[..21], *text);
         assert_eq!(state.bytes[21..], [0; 107]);
         let before = state;
-        assert_eq!(end_units(&mut state, b"noleap"), read_units(b"noleap", text));
+        assert_eq!(end_units(&mut state, b"noleap", CUTOVER_1582), read_units(b"noleap", CUTOVER_1582, text));
         assert_eq!(state, UnitsState { ended: 1, ..before });
         not_open(state);
     }
     let bytes: Vec<&[u8]> = text.chunks(1).collect();
-    assert_eq!(end_units(&mut added(&bytes), b"julian"), read_units(b"julian", text));
-    assert_eq!(end_units(&mut added(&[&text[..20]]), b""), read_units(b"", &text[..20]));
+    assert_eq!(end_units(&mut added(&bytes), b"julian", CUTOVER_1582), read_units(b"julian", CUTOVER_1582, text));
+    assert_eq!(end_units(&mut added(&[&text[..20]]), b"", CUTOVER_1582), read_units(b"", CUTOVER_1582, &text[..20]));
 }
 
 #[test]
 fn no_bytes() {
-    assert_eq!(end_units(&mut added(&[]), b""), refused(3));
-    assert_eq!(end_units(&mut added(&[b"", b""]), b"tai"), refused(2));
+    assert_eq!(end_units(&mut added(&[]), b"", CUTOVER_1582), refused(3));
+    assert_eq!(end_units(&mut added(&[b"", b""]), b"tai", CUTOVER_1582), refused(2));
 }
 
 #[test]
@@ -71,7 +71,7 @@ fn refused_ends() {
     for (name, text, number) in cases {
         let mut state = added(&[text]);
         let before = state;
-        assert_eq!(end_units(&mut state, name), refused(number));
+        assert_eq!(end_units(&mut state, name, CUTOVER_1582), refused(number));
         assert_eq!(state, UnitsState { ended: 1, ..before });
         not_open(state);
     }
@@ -86,15 +86,15 @@ fn lengths_about_128() {
     let mut full = added(&[&fitting[..100], &fitting[100..]]);
     assert_eq!((full.count, &full.bytes[..]), (128, &fitting[..]));
     let mut past = full;
-    assert_eq!(end_units(&mut full, b""), read_units(b"", b"s since 1970"));
+    assert_eq!(end_units(&mut full, b"", CUTOVER_1582), read_units(b"", CUTOVER_1582, b"s since 1970"));
     assert_eq!(add_units(&mut past, b"Z"), 0);
     assert_eq!((past.count, &past.bytes[..]), (129, &fitting[..]));
-    assert_eq!(end_units(&mut past, b"tai"), refused(1));
+    assert_eq!(end_units(&mut past, b"tai", CUTOVER_1582), refused(1));
     not_open(past);
     for cut in 0..=129 {
         let state = added(&[&text[..cut], &text[cut..]]);
         assert_eq!((state.count, &state.bytes[..]), (129, &text[..128]));
-        assert_eq!(end_units(&mut { state }, b""), refused(1));
+        assert_eq!(end_units(&mut { state }, b"", CUTOVER_1582), refused(1));
     }
     let long = added(&[&[b'y'; 100], &[b'z'; 5000], b"", b"s"]);
     assert_eq!((long.count, &long.bytes[..]), (129, &[[b'y'; 100].as_slice(), &[b'z'; 28]].concat()[..]));
@@ -112,11 +112,11 @@ fn damaged_states() {
     let mut state = UnitsState { count: 12, ended: 0, bytes };
     state.bytes[..12].copy_from_slice(b"s since 1970");
     let mut more = state;
-    assert_eq!(end_units(&mut state, b""), read_units(b"", b"s since 1970"));
+    assert_eq!(end_units(&mut state, b"", CUTOVER_1582), read_units(b"", CUTOVER_1582, b"s since 1970"));
     assert_eq!(add_units(&mut more, b"-02"), 0);
     assert_eq!((more.count, &more.bytes[..15], &more.bytes[15..]), (15, &b"s since 1970-02"[..], &bytes[15..]));
     let mut past = UnitsState { count: 129, ended: 0, bytes };
     assert_eq!(add_units(&mut past, b"s since"), 0);
     assert_eq!(past, UnitsState { count: 129, ended: 0, bytes });
-    assert_eq!(end_units(&mut past, b""), refused(1));
+    assert_eq!(end_units(&mut past, b"", CUTOVER_1582), refused(1));
 }

@@ -1,10 +1,10 @@
 //! A mistyped date told from a missing and from a dropped one: the last good and the first bad of every field in each calendar, and the
 //! order of several faults, by every call that is given a date.
 
-use answers::{Axis, Date, Fields};
+use answers::{Axis, CUTOVER_1582, Date, Fields};
 use second::boundary::*;
 use second::calendar::Calendar::{self, *};
-use second::calendar::{CALENDARS, calendar_named};
+use second::calendar::{CALENDARS, STANDARD, calendar_named};
 use second::listing::answer;
 
 const IMPOSSIBLE: u32 = 4;
@@ -13,19 +13,19 @@ const DROPPED: u32 = 13;
 
 fn name(calendar: Calendar) -> &'static str {
     let names = ["standard", "proleptic_gregorian", "julian", "noleap", "all_leap", "360_day"];
-    assert_eq!(calendar_named(names[calendar as usize].as_bytes()), Some(calendar));
-    names[calendar as usize]
+    assert_eq!(calendar_named(names[calendar.code() as usize].as_bytes()), Some(calendar));
+    names[calendar.code() as usize]
 }
 
 /// That a written date has this answer as an ISO text, in a units text at once and in fragments, and in a line of the listing.
 #[track_caller]
 fn text(number: u32, calendar: Calendar, date: &str) {
     let (name, units) = (name(calendar), format!("s since {date}"));
-    assert_eq!(read_iso(name.as_bytes(), date.as_bytes()).number, number, "{name} {date}");
-    assert_eq!(read_units(name.as_bytes(), units.as_bytes()).number, number, "{name} {units}");
+    assert_eq!(read_iso(name.as_bytes(), CUTOVER_1582, date.as_bytes()).number, number, "{name} {date}");
+    assert_eq!(read_units(name.as_bytes(), CUTOVER_1582, units.as_bytes()).number, number, "{name} {units}");
     let mut state = start_units();
     units.as_bytes().chunks(3).for_each(|fragment| assert_eq!(add_units(&mut state, fragment), 0));
-    assert_eq!(end_units(&mut state, name.as_bytes()).number, number, "{name} {units}");
+    assert_eq!(end_units(&mut state, name.as_bytes(), CUTOVER_1582).number, number, "{name} {units}");
     let line = answer(format!("{name}|{units}|0").as_bytes());
     assert_eq!(line.strip_prefix("refused "), (number != 0).then(|| number.to_string()).as_deref(), "{name} {units}");
 }
@@ -34,14 +34,18 @@ fn text(number: u32, calendar: Calendar, date: &str) {
 #[track_caller]
 fn fields(number: u32, calendar: Calendar, fields: Fields) {
     let reference = fields.microsecond.into();
-    let axis = Axis { calendar: calendar as u32, reference, ..Default::default() };
+    let axis = Axis { calendar: calendar.code(), reference, ..Default::default() };
     assert_eq!(write_fields(axis, fields).number, number, "{calendar:?} {fields:?}");
 }
 
 /// The same of a date by every call, at midnight.
 #[track_caller]
 fn date(number: u32, calendar: Calendar, year: i64, month: u32, day: u32) {
-    assert_eq!(day_number_of_date(calendar as u32, Date { year, month, day }).number, number, "{calendar:?}");
+    assert_eq!(
+        day_number_of_date(calendar.code(), CUTOVER_1582, Date { year, month, day }).number,
+        number,
+        "{calendar:?}"
+    );
     fields(number, calendar, Fields { year, month, day, ..Default::default() });
     text(number, calendar, &format!("{year}-{month}-{day}"));
 }
@@ -56,7 +60,8 @@ fn borders_of_months_and_days() {
         for (number, day) in [(IMPOSSIBLE, 0), (0, 1), (0, 30), (last, 31), (IMPOSSIBLE, 32), (IMPOSSIBLE, 99)] {
             date(number, calendar, 1970, 1, day);
         }
-        let far = |month, day| day_number_of_date(calendar as u32, Date { year: 1970, month, day }).number;
+        let far =
+            |month, day| day_number_of_date(calendar.code(), CUTOVER_1582, Date { year: 1970, month, day }).number;
         assert_eq!([far(u32::MAX, 1), far(1, u32::MAX), far(257, 1), far(1, 257)], [IMPOSSIBLE; 4]);
     }
 }
@@ -101,11 +106,11 @@ fn borders_of_zones() {
 fn lengths_of_months() {
     let months = [31, 28, 31, 30, 31, 30, 31, 31, 30, 31, 30, 31];
     let years = [
-        (Standard, 1900, 28),
-        (Standard, 2000, 29),
-        (Standard, 1500, 29),
-        (Standard, -1, 29),
-        (Standard, -4, 28),
+        (STANDARD, 1900, 28),
+        (STANDARD, 2000, 29),
+        (STANDARD, 1500, 29),
+        (STANDARD, -1, 29),
+        (STANDARD, -4, 28),
         (ProlepticGregorian, 1900, 28),
         (ProlepticGregorian, 2000, 29),
         (ProlepticGregorian, 1500, 28),
@@ -133,7 +138,7 @@ fn lengths_of_months() {
 #[test]
 fn year_0() {
     for calendar in CALENDARS {
-        let number = if matches!(calendar, Standard | Julian) { MISSING } else { 0 };
+        let number = if matches!(calendar, Standard(_) | Julian) { MISSING } else { 0 };
         for (month, day) in [(1, 1), (2, 28), (10, 10), (12, 30)] {
             date(number, calendar, 0, month, day);
         }
@@ -153,7 +158,7 @@ fn year_0() {
 #[test]
 fn dropped_days() {
     for calendar in CALENDARS {
-        let number = if calendar == Standard { DROPPED } else { 0 };
+        let number = if calendar == STANDARD { DROPPED } else { 0 };
         date(0, calendar, 1582, 10, 4);
         (5..=14).for_each(|day| date(number, calendar, 1582, 10, day));
         date(0, calendar, 1582, 10, 15);
@@ -172,9 +177,9 @@ fn dropped_days() {
 #[test]
 fn impossible_before_missing_and_dropped() {
     let dates = [
-        (Standard, "0-01-01", MISSING),
-        (Standard, "1582-10-05", DROPPED),
-        (Standard, "1582-10-14", DROPPED),
+        (STANDARD, "0-01-01", MISSING),
+        (STANDARD, "1582-10-05", DROPPED),
+        (STANDARD, "1582-10-14", DROPPED),
         (ProlepticGregorian, "1900-02-29", MISSING),
         (Julian, "0-12-31", MISSING),
         (Noleap, "2000-02-29", MISSING),
@@ -189,24 +194,24 @@ fn impossible_before_missing_and_dropped() {
             text(IMPOSSIBLE, calendar, &format!("{start}{time}"));
         }
     }
-    text(IMPOSSIBLE, Standard, "1900-02-30T24:00");
-    text(IMPOSSIBLE, Standard, "0-13-01");
+    text(IMPOSSIBLE, STANDARD, "1900-02-30T24:00");
+    text(IMPOSSIBLE, STANDARD, "0-13-01");
     text(IMPOSSIBLE, Julian, "0-01-00");
-    text(IMPOSSIBLE, Standard, "1582-10-00T25");
+    text(IMPOSSIBLE, STANDARD, "1582-10-00T25");
 }
 
 #[test]
 fn order_of_texts() {
-    assert_eq!(read_iso(b"tai", format!("1582-10-05{}", " ".repeat(119)).as_bytes()).number, 1);
-    assert_eq!(read_iso(b"tai", b"1582-10-05").number, 2);
+    assert_eq!(read_iso(b"tai", CUTOVER_1582, format!("1582-10-05{}", " ".repeat(119)).as_bytes()).number, 1);
+    assert_eq!(read_iso(b"tai", CUTOVER_1582, b"1582-10-05").number, 2);
     for ill_formed in ["1582-10-05Z", "1900-02-30T24:", "10000-13-32", "1582-10-05T00+24:0", "1582-10-005"] {
-        text(3, Standard, ill_formed);
+        text(3, STANDARD, ill_formed);
     }
     text(5, Day360, "9999-12-30 23:00 -01:00");
     text(MISSING, Day360, "9999-12-31 23:00 -01:00");
     text(IMPOSSIBLE, Day360, "9999-12-31 24:00 -01:00");
-    text(IMPOSSIBLE, Standard, "9999-12-31 23:00 -24:00");
-    text(IMPOSSIBLE, Standard, "-9999-01-01 00:00 +23:60");
+    text(IMPOSSIBLE, STANDARD, "9999-12-31 23:00 -24:00");
+    text(IMPOSSIBLE, STANDARD, "-9999-01-01 00:00 +23:60");
 }
 
 #[test]
@@ -235,7 +240,8 @@ fn order_of_fields() {
 
 #[test]
 fn order_of_dates() {
-    let number = |calendar, year, month, day| day_number_of_date(calendar, Date { year, month, day }).number;
+    let number =
+        |calendar, year, month, day| day_number_of_date(calendar, CUTOVER_1582, Date { year, month, day }).number;
     assert_eq!(number(6, 10_000, 13, 32), 2);
     assert_eq!(number(0, 10_000, 13, 32), 5);
     assert_eq!(number(0, -10_000, 2, 30), 5);

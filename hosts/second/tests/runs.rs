@@ -1,9 +1,9 @@
 //! Runs: all or nothing, the place of the first refusal, and what stays in the destination. The codes of the boundary.
 
-use answers::{Axis, Date, DayAnswer, Fields, Reading, RunAnswer};
+use answers::{Axis, CUTOVER_1582, Date, DayAnswer, Fields, Reading, RunAnswer};
 use second::boundary::*;
 
-const SECONDS: Axis = Axis { calendar: 0, period: 0, mode: 0, reference: 0 };
+const SECONDS: Axis = Axis { calendar: 0, period: 0, mode: 0, reference: 0, cutover: CUTOVER_1582 };
 
 #[test]
 fn success_keeps_what_lies_beyond() {
@@ -51,12 +51,15 @@ fn order_of_writing() {
 
 #[test]
 fn dates_and_days() {
-    assert_eq!(date_of_day_number(0, 2_932_896).date, Date { year: 9999, month: 12, day: 31 });
-    assert_eq!(date_of_day_number(0, 2_932_897).number, 5);
-    assert_eq!(date_of_day_number(7, i64::MAX).number, 2);
-    assert_eq!(day_number_of_date(0, Date { year: 1582, month: 10, day: 10 }), DayAnswer { number: 13, day: 0 });
-    assert_eq!(day_number_of_date(0, Date { year: 10_000, month: 13, day: 1 }).number, 5);
-    assert_eq!(fields_of(3, i64::MIN).number, 5);
-    assert_eq!(read_iso(b"", b"1970-01-01"), Reading { exact: 1, ..Default::default() });
-    assert_eq!(read_iso(b"", b"1970-02-30"), Reading { number: 12, ..Default::default() });
+    assert_eq!(date_of_day_number(0, CUTOVER_1582, 2_932_896).date, Date { year: 9999, month: 12, day: 31 });
+    assert_eq!(date_of_day_number(0, CUTOVER_1582, 2_932_897).number, 5);
+    assert_eq!(date_of_day_number(7, CUTOVER_1582, i64::MAX).number, 2);
+    assert_eq!(
+        day_number_of_date(0, CUTOVER_1582, Date { year: 1582, month: 10, day: 10 }),
+        DayAnswer { number: 13, day: 0 }
+    );
+    assert_eq!(day_number_of_date(0, CUTOVER_1582, Date { year: 10_000, month: 13, day: 1 }).number, 5);
+    assert_eq!(fields_of(3, CUTOVER_1582, i64::MIN).number, 5);
+    assert_eq!(read_iso(b"", CUTOVER_1582, b"1970-01-01"), Reading { exact: 1, ..Default::default() });
+    assert_eq!(read_iso(b"", CUTOVER_1582, b"1970-02-30"), Reading { number: 12, ..Default::default() });
 }

@@ -1,11 +1,12 @@
 //! The tables of worked dates in source document 000, cut to seconds or days as it prints them.
 
+use second::cutover::OF_1582;
 use second::iso::iso_text;
 use second::reading::read_whole;
 use second::units_text::read_units;
 
 fn agrees(units: &str, first: i64, step: i64, dates: &[&str]) {
-    let axis = read_units(b"proleptic_gregorian", units.as_bytes()).unwrap();
+    let axis = read_units(b"proleptic_gregorian", OF_1582.first, units.as_bytes()).unwrap();
     for (i, date) in dates.iter().enumerate() {
         let reading = read_whole(axis, first + step * i as i64).unwrap();
         assert!(iso_text(axis.calendar, reading.instant).unwrap().starts_with(date), "{units} {date}");

@@ -1,5 +1,6 @@
 //! The units text and ISO text at the edges of their grammar, and the order of refusals.
 
+use second::cutover::OF_1582;
 use second::iso::{iso_text, read_iso, write_iso};
 use second::refusal::Refusal;
 use second::units_text::{meanings, read_units};
@@ -7,7 +8,7 @@ use second::{axis, calendar};
 
 fn number(text: &str) -> u32 {
     assert!(meanings(text.as_bytes()).len() <= 1, "more than one meaning: {text}");
-    read_units(b"", text.as_bytes()).map_or_else(Refusal::number, |_| 0)
+    read_units(b"", OF_1582.first, text.as_bytes()).map_or_else(Refusal::number, |_| 0)
 }
 
 #[track_caller]
@@ -95,7 +96,7 @@ fn times_and_zones() {
 
 #[test]
 fn meaning_of_fractions_and_zones() {
-    let at = |text: &str| read_iso(b"standard", text.as_bytes()).unwrap();
+    let at = |text: &str| read_iso(b"standard", OF_1582.first, text.as_bytes()).unwrap();
     assert_eq!(at("1970-01-01T0:0:0.5"), 500_000);
     assert_eq!(at("1970-01-01T0:0:0.000001"), 1);
     assert_eq!(at("1970-01-01T0:0:0.05"), 50_000);
@@ -108,7 +109,7 @@ fn meaning_of_fractions_and_zones() {
 fn order_of_refusals() {
     let long = format!("s since {:>121}", "1970");
     assert_eq!(long.len(), 129);
-    let number = |name: &[u8], text: &str| read_units(name, text.as_bytes()).unwrap_err().number();
+    let number = |name: &[u8], text: &str| read_units(name, OF_1582.first, text.as_bytes()).unwrap_err().number();
     assert_eq!(number(b"tai", &long), 1);
     assert_eq!(number(b"tai", "q"), 2);
     assert_eq!(number(b"Standard", "s since 1970-13"), 2);
@@ -118,14 +119,18 @@ fn order_of_refusals() {
     assert_eq!(number(b"", "s since -9999-01-01 00:59 +01:00"), 5);
     assert_eq!(number(b"360_day", "s since 9999-12-30 23:00 -01:00"), 5);
     assert!(
-        read_units(b"", &long.as_bytes()[..8].iter().chain(&long.as_bytes()[9..]).copied().collect::<Vec<u8>>())
-            .is_ok()
+        read_units(
+            b"",
+            OF_1582.first,
+            &long.as_bytes()[..8].iter().chain(&long.as_bytes()[9..]).copied().collect::<Vec<u8>>()
+        )
+        .is_ok()
     );
 }
 
 #[test]
 fn names() {
-    let code = |name: &str| calendar::calendar_named(name.as_bytes()).map(|calendar| calendar as u32);
+    let code = |name: &str| calendar::calendar_named(name.as_bytes()).map(|calendar| calendar.code());
     let names =
         ["", "standard", "gregorian", "proleptic_gregorian", "ISO8601", "julian", "noleap", "no_leap", "365_day"];
     assert_eq!(names.map(|name| code(name).unwrap()), [0, 0, 0, 1, 1, 2, 3, 3, 3]);
@@ -142,17 +147,17 @@ fn iso_written_and_read() {
     assert_eq!(written(-1), "1969-12-31T23:59:59.999999Z");
     assert_eq!(written(-62_167_219_200_000_001), "-0001-12-31T23:59:59.999999Z");
     let mut room = [b'#'; 30];
-    assert_eq!(write_iso(calendar::Calendar::Standard, 0, &mut room[..26]), Err(Refusal::NoRoom));
+    assert_eq!(write_iso(calendar::STANDARD, 0, &mut room[..26]), Err(Refusal::NoRoom));
     assert_eq!(room, [b'#'; 30]);
-    assert_eq!(write_iso(calendar::Calendar::Standard, 0, &mut room), Ok(27));
+    assert_eq!(write_iso(calendar::STANDARD, 0, &mut room), Ok(27));
     assert_eq!(&room, b"1970-01-01T00:00:00.000000Z###");
-    assert_eq!(write_iso(calendar::Calendar::Standard, i64::MAX, &mut []), Err(Refusal::OutOfRange));
-    assert_eq!(read_iso(b"", b""), Err(Refusal::IllFormed));
+    assert_eq!(write_iso(calendar::STANDARD, i64::MAX, &mut []), Err(Refusal::OutOfRange));
+    assert_eq!(read_iso(b"", OF_1582.first, b""), Err(Refusal::IllFormed));
 }
 
 #[test]
 fn axis_read() {
-    let axis = read_units(b"noleap", b"calendar  yrs SINCE 1970-01-02").unwrap();
+    let axis = read_units(b"noleap", OF_1582.first, b"calendar  yrs SINCE 1970-01-02").unwrap();
     assert_eq!((axis.calendar, axis.reference), (calendar::Calendar::Noleap, 86_400_000_000));
     assert_eq!((axis.period, axis.mode), (axis::Period::Year, axis::Mode::Calendar));
 }

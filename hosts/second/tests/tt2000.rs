@@ -1,6 +1,6 @@
 //! TT2000 and lists of leap seconds: document 02's values, those of source document 003, and the refusals in their order.
 
-use answers::{Date, Tt2000Answer, UtcFields, UtcFieldsAnswer};
+use answers::{CUTOVER_1582, Date, Tt2000Answer, UtcFields, UtcFieldsAnswer};
 use second::boundary::{day_number_of_date, read_tt2000, write_tt2000};
 
 const PUBLISHED: &[u8] = include_bytes!("../../../data/leap_seconds_2017.bin");
@@ -46,7 +46,7 @@ fn list(days: &[i64]) -> Vec<u8> {
 }
 
 fn list_of_document_003() -> Vec<u8> {
-    let day = |(year, month)| day_number_of_date(PROLEPTIC_GREGORIAN, Date { year, month, day: 1 }).day;
+    let day = |(year, month)| day_number_of_date(PROLEPTIC_GREGORIAN, CUTOVER_1582, Date { year, month, day: 1 }).day;
     list(&DAYS_OF_DOCUMENT_003.map(day))
 }
 
@@ -90,7 +90,8 @@ fn j2000() {
 /// In 2009 the count is 34, so TT is 66.184 s ahead of UTC.
 #[test]
 fn year_2009() {
-    let days = day_number_of_date(PROLEPTIC_GREGORIAN, Date { year: 2009, month: 1, day: 1 }).day - 10_957;
+    let days =
+        day_number_of_date(PROLEPTIC_GREGORIAN, CUTOVER_1582, Date { year: 2009, month: 1, day: 1 }).day - 10_957;
     let noon = days * 86_400 * SECOND;
     same(&list_of_document_003(), noon + 66_184_000_000, fields(2009, 1, 1, 12, 0, 0, 0));
     same(&list_of_document_003(), noon, fields(2009, 1, 1, 11, 58, 53, 816_000_000));

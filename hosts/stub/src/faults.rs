@@ -1,5 +1,6 @@
 //! Faults that the comparison tests must find, one at a time: UPPINALO_FAULT names it, and the call with the fault has the name's start.
 
+pub mod cutover;
 pub mod dates;
 pub mod datetime64;
 pub mod days_back;
@@ -24,9 +25,9 @@ pub fn is_on(fault: &str) -> bool {
 }
 
 /// The days of negative instants are found by division toward zero.
-pub fn fields_of_toward_zero(calendar: u32, instant: i64) -> FieldsAnswer {
+pub fn fields_of_toward_zero(calendar: u32, cutover: Date, instant: i64) -> FieldsAnswer {
     let is_late = instant < 0 && instant % DAY != 0;
-    boundary::fields_of(calendar, if is_late { instant + DAY } else { instant })
+    boundary::fields_of(calendar, cutover, if is_late { instant + DAY } else { instant })
 }
 
 /// The double is multiplied and rounded by the machine, twice.
@@ -46,7 +47,7 @@ pub fn read_whole_wrapping(axis: Axis, offset: i64) -> Reading {
     }
     let period = second::axis::PERIODS[axis.period as usize].microseconds();
     let instant = axis.reference.wrapping_add(offset.wrapping_mul(period));
-    match boundary::fields_of(axis.calendar, instant).number {
+    match boundary::fields_of(axis.calendar, axis.cutover, instant).number {
         0 => Reading { instant, exact: 1, ..Default::default() },
         number => Reading { number, ..Default::default() },
     }
@@ -62,8 +63,8 @@ pub fn read_wholes_up_to_refusal(axis: Axis, source: &[i64], destination: &mut [
 }
 
 /// The bytes beyond the text are cleared.
-pub fn write_iso_and_clear(calendar: u32, instant: i64, room: &mut [u8]) -> LengthAnswer {
-    let answer = boundary::write_iso(calendar, instant, room);
+pub fn write_iso_and_clear(calendar: u32, cutover: Date, instant: i64, room: &mut [u8]) -> LengthAnswer {
+    let answer = boundary::write_iso(calendar, cutover, instant, room);
     if answer.number == 0 {
         room[answer.length..].fill(0);
     }
@@ -77,19 +78,19 @@ pub fn write_instant_not_exact(axis: Axis, instant: i64) -> OffsetAnswer {
 }
 
 /// `t` stands for `T`.
-pub fn read_iso_lower_case(name: &[u8], text: &[u8]) -> Reading {
+pub fn read_iso_lower_case(name: &[u8], cutover: Date, text: &[u8]) -> Reading {
     let text: Vec<u8> = text.iter().map(|&byte| if byte == b't' { b'T' } else { byte }).collect();
-    boundary::read_iso(name, &text)
+    boundary::read_iso(name, cutover, &text)
 }
 
 /// A space at the end is let through.
-pub fn read_units_with_space(name: &[u8], text: &[u8]) -> AxisAnswer {
-    boundary::read_units(name, text.strip_suffix(b" ").unwrap_or(text))
+pub fn read_units_with_space(name: &[u8], cutover: Date, text: &[u8]) -> AxisAnswer {
+    boundary::read_units(name, cutover, text.strip_suffix(b" ").unwrap_or(text))
 }
 
 /// One calendar is shown with a year 0, which it lacks.
-pub fn date_of_day_with_year_0(of: u32, calendar: u32, day: i64) -> DateAnswer {
-    let mut answer = boundary::date_of_day_number(calendar, day);
+pub fn date_of_day_with_year_0(of: u32, calendar: u32, cutover: Date, day: i64) -> DateAnswer {
+    let mut answer = boundary::date_of_day_number(calendar, cutover, day);
     if calendar == of && answer.date.year < 0 {
         answer.date.year += 1;
     }
@@ -97,15 +98,15 @@ pub fn date_of_day_with_year_0(of: u32, calendar: u32, day: i64) -> DateAnswer {
 }
 
 /// 0000 of `julian` counts as the year -1.
-pub fn day_of_date_julian_year_0_taken(calendar: u32, date: Date) -> DayAnswer {
+pub fn day_of_date_julian_year_0_taken(calendar: u32, cutover: Date, date: Date) -> DayAnswer {
     let is_year_0 = calendar == 2 && date.year == 0;
-    boundary::day_number_of_date(calendar, if is_year_0 { Date { year: -1, ..date } } else { date })
+    boundary::day_number_of_date(calendar, cutover, if is_year_0 { Date { year: -1, ..date } } else { date })
 }
 
 /// Steps back by years over the start of year 1 count a year 0 in `julian`.
 pub fn read_whole_julian_year_0_counted(axis: Axis, offset: i64) -> Reading {
     let right = boundary::read_whole(axis, offset);
-    let year = |instant| boundary::fields_of(axis.calendar, instant).fields.year;
+    let year = |instant| boundary::fields_of(axis.calendar, axis.cutover, instant).fields.year;
     let is_over_year_0 = right.number == 0 && year(axis.reference) > 0 && year(right.instant) < 0;
     if (axis.calendar, axis.period, axis.mode) == (2, 7, 1) && is_over_year_0 {
         return boundary::read_whole(axis, offset + 1);
@@ -113,11 +114,10 @@ pub fn read_whole_julian_year_0_counted(axis: Axis, offset: i64) -> Reading {
     right
 }
 
-/// The dropped days of 1582 count as 1582-10-15.
-pub fn day_of_date_in_the_gap(calendar: u32, date: Date) -> DayAnswer {
-    let answer = boundary::day_number_of_date(calendar, date);
-    let is_dropped = calendar == 0 && (date.year, date.month) == (1582, 10) && (5..15).contains(&date.day);
-    if is_dropped { boundary::day_number_of_date(0, Date { day: 15, ..date }) } else { answer }
+/// The dropped days count as that of the cutover.
+pub fn day_of_date_in_the_gap(calendar: u32, cutover: Date, date: Date) -> DayAnswer {
+    let answer = boundary::day_number_of_date(calendar, cutover, date);
+    if answer.number == 13 { boundary::day_number_of_date(0, cutover, cutover) } else { answer }
 }
 
 /// A month that no date has is refused before a year past the range.

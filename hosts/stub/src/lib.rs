@@ -20,14 +20,15 @@ unsafe fn lent_mut<'a, T>(start: *mut T, length: usize) -> &'a mut [T] {
 unsafe extern "C" fn uppinalo_read_units(
     name: *const u8,
     name_len: usize,
+    cutover: Date,
     text: *const u8,
     text_len: usize,
 ) -> AxisAnswer {
     let (name, text) = unsafe { (lent(name, name_len), lent(text, text_len)) };
     if faults::is_on("read_units_with_space") {
-        return faults::read_units_with_space(name, text);
+        return faults::read_units_with_space(name, cutover, text);
     }
-    faults::dates::read_units(name, text)
+    faults::cutover::axis("read_units", name, cutover, |cutover| faults::dates::read_units(name, cutover, text))
 }
 
 #[unsafe(no_mangle)]
@@ -44,56 +45,92 @@ unsafe extern "C" fn uppinalo_add_units(state: *mut UnitsState, fragment: *const
 }
 
 #[unsafe(no_mangle)]
-unsafe extern "C" fn uppinalo_end_units(state: *mut UnitsState, name: *const u8, name_len: usize) -> AxisAnswer {
-    unsafe { faults::fragments::end(&mut *state, lent(name, name_len)) }
+unsafe extern "C" fn uppinalo_end_units(
+    state: *mut UnitsState,
+    name: *const u8,
+    name_len: usize,
+    cutover: Date,
+) -> AxisAnswer {
+    let (state, name) = unsafe { (&mut *state, lent(name, name_len)) };
+    let before = *state;
+    faults::cutover::axis("end_units", name, cutover, |cutover| {
+        *state = before;
+        faults::fragments::end(state, name, cutover)
+    })
 }
 
 #[unsafe(no_mangle)]
-unsafe extern "C" fn uppinalo_read_iso(name: *const u8, name_len: usize, text: *const u8, text_len: usize) -> Reading {
+unsafe extern "C" fn uppinalo_read_iso(
+    name: *const u8,
+    name_len: usize,
+    cutover: Date,
+    text: *const u8,
+    text_len: usize,
+) -> Reading {
     let (name, text) = unsafe { (lent(name, name_len), lent(text, text_len)) };
     if faults::is_on("read_iso_lower_case") {
-        return faults::read_iso_lower_case(name, text);
+        return faults::read_iso_lower_case(name, cutover, text);
     }
-    faults::days_back::of_text(name, faults::dates::read_iso(name, text))
+    faults::cutover::of_name("read_iso", name, cutover, |cutover| {
+        faults::days_back::of_text(name, cutover, faults::dates::read_iso(name, cutover, text))
+    })
 }
 
 #[unsafe(no_mangle)]
-unsafe extern "C" fn uppinalo_write_iso(calendar: u32, instant: i64, room: *mut u8, room_len: usize) -> LengthAnswer {
+unsafe extern "C" fn uppinalo_write_iso(
+    calendar: u32,
+    cutover: Date,
+    instant: i64,
+    room: *mut u8,
+    room_len: usize,
+) -> LengthAnswer {
     let room = unsafe { lent_mut(room, room_len) };
     if faults::is_on("write_iso_and_clear") {
-        return faults::write_iso_and_clear(calendar, instant, room);
+        return faults::write_iso_and_clear(calendar, cutover, instant, room);
     }
-    boundary::write_iso(calendar, instant, room)
+    faults::cutover::of_code("write_iso", calendar, cutover, |cutover| {
+        boundary::write_iso(calendar, cutover, instant, room)
+    })
 }
 
 #[unsafe(no_mangle)]
-extern "C" fn uppinalo_fields_of(calendar: u32, instant: i64) -> FieldsAnswer {
+extern "C" fn uppinalo_fields_of(calendar: u32, cutover: Date, instant: i64) -> FieldsAnswer {
     if faults::is_on("fields_of_toward_zero") {
-        return faults::fields_of_toward_zero(calendar, instant);
+        return faults::fields_of_toward_zero(calendar, cutover, instant);
     }
-    boundary::fields_of(calendar, instant)
+    if faults::is_on("fields_of_last_day_kept_a_day_late") {
+        return faults::cutover::fields_of_last_day_kept_a_day_late(calendar, cutover, instant);
+    }
+    faults::cutover::of_code("fields_of", calendar, cutover, |cutover| boundary::fields_of(calendar, cutover, instant))
 }
 
 #[unsafe(no_mangle)]
-extern "C" fn uppinalo_date_of_day(calendar: u32, day: i64) -> DateAnswer {
+extern "C" fn uppinalo_date_of_day(calendar: u32, cutover: Date, day: i64) -> DateAnswer {
     if faults::is_on("date_of_day_with_year_0") {
-        return faults::date_of_day_with_year_0(0, calendar, day);
+        return faults::date_of_day_with_year_0(0, calendar, cutover, day);
     }
     if faults::is_on("date_of_day_julian_with_year_0") {
-        return faults::date_of_day_with_year_0(2, calendar, day);
+        return faults::date_of_day_with_year_0(2, calendar, cutover, day);
     }
-    boundary::date_of_day_number(calendar, day)
+    if faults::is_on("date_of_day_last_day_kept_a_day_late") {
+        return faults::cutover::date_of_day_last_day_kept_a_day_late(calendar, cutover, day);
+    }
+    faults::cutover::of_code("date_of_day", calendar, cutover, |cutover| {
+        boundary::date_of_day_number(calendar, cutover, day)
+    })
 }
 
 #[unsafe(no_mangle)]
-extern "C" fn uppinalo_day_of_date(calendar: u32, date: Date) -> DayAnswer {
+extern "C" fn uppinalo_day_of_date(calendar: u32, cutover: Date, date: Date) -> DayAnswer {
     if faults::is_on("day_of_date_in_the_gap") {
-        return faults::day_of_date_in_the_gap(calendar, date);
+        return faults::day_of_date_in_the_gap(calendar, cutover, date);
     }
     if faults::is_on("day_of_date_julian_year_0_taken") {
-        return faults::day_of_date_julian_year_0_taken(calendar, date);
+        return faults::day_of_date_julian_year_0_taken(calendar, cutover, date);
     }
-    faults::dates::day_of_date(calendar, date)
+    faults::cutover::of_code("day_of_date", calendar, cutover, |cutover| {
+        faults::dates::day_of_date(calendar, cutover, date)
+    })
 }
 
 #[unsafe(no_mangle)]
@@ -104,7 +141,7 @@ extern "C" fn uppinalo_read_whole(axis: Axis, offset: i64) -> Reading {
     if faults::is_on("read_whole_julian_year_0_counted") {
         return faults::read_whole_julian_year_0_counted(axis, offset);
     }
-    faults::days_back::read_whole(axis, offset)
+    faults::cutover::on_axis("read_whole", axis, |axis| faults::days_back::read_whole(axis, offset))
 }
 
 #[unsafe(no_mangle)]
@@ -112,7 +149,7 @@ extern "C" fn uppinalo_read_double(axis: Axis, offset: f64) -> Reading {
     if faults::is_on("read_double_by_the_machine") {
         return faults::read_double_by_the_machine(axis, offset);
     }
-    faults::days_back::read_double(axis, offset)
+    faults::cutover::on_axis("read_double", axis, |axis| faults::days_back::read_double(axis, offset))
 }
 
 #[unsafe(no_mangle)]
@@ -120,7 +157,7 @@ extern "C" fn uppinalo_write_instant(axis: Axis, instant: i64) -> OffsetAnswer {
     if faults::is_on("write_instant_not_exact") {
         return faults::write_instant_not_exact(axis, instant);
     }
-    boundary::write_instant(axis, instant)
+    faults::cutover::on_axis("write_instant", axis, |axis| boundary::write_instant(axis, instant))
 }
 
 #[unsafe(no_mangle)]
@@ -128,7 +165,7 @@ extern "C" fn uppinalo_write_fields(axis: Axis, fields: Fields) -> OffsetAnswer 
     if faults::is_on("write_fields_4_before_5") {
         return faults::write_fields_4_before_5(axis, fields);
     }
-    faults::dates::write_fields(axis, fields)
+    faults::cutover::on_axis("write_fields", axis, |axis| faults::dates::write_fields(axis, fields))
 }
 
 #[unsafe(no_mangle)]
@@ -143,7 +180,7 @@ unsafe extern "C" fn uppinalo_read_wholes(
     if faults::is_on("read_wholes_up_to_refusal") {
         return faults::read_wholes_up_to_refusal(axis, source, destination);
     }
-    boundary::read_wholes(axis, source, destination)
+    faults::cutover::on_axis("read_wholes", axis, |axis| boundary::read_wholes(axis, source, destination))
 }
 
 #[unsafe(no_mangle)]
@@ -157,7 +194,8 @@ unsafe extern "C" fn uppinalo_read_doubles(
     if faults::is_on("read_doubles_past_the_end") && n > 0 && room == n {
         unsafe { destination.add(n).write(0) };
     }
-    unsafe { boundary::read_doubles(axis, lent(source, n), lent_mut(destination, room)) }
+    let (source, destination) = unsafe { (lent(source, n), lent_mut(destination, room)) };
+    faults::cutover::on_axis("read_doubles", axis, |axis| boundary::read_doubles(axis, source, destination))
 }
 
 #[unsafe(no_mangle)]

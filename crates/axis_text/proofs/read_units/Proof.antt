@@ -16,10 +16,10 @@ module _ (d : tie.After-read-units) where
   abbrev k : tie.After-text-calendar
   k = d .before .before .before .before
 
-  read : (o : UnitsAnswer) → d .read-units .result ≡ o → byValue AxisAnswer.Refused (axisOf (d .before .before .calendar .given .0 .0)) (unitsValue o) ≡ readUnits (k .before .before .before .args .name .now) (k .before .before .before .args .text .now)
+  read : (o : UnitsAnswer) → d .read-units .result ≡ o → byValue AxisAnswer.Refused (axisOf (d .before .before .calendar .given .0 .0)) (unitsValue o) ≡ readUnits (k .before .before .before .args .name .now) (k .before .before .before .args .x) (k .before .before .before .args .text .now)
   unfolding readUnits
   read o e =
-      text-read AxisAnswer.Refused units axisOf _ _ _ _ (sym (d .before .before .calendar .given .1) ∙ k .text-calendar .ensures)
+      text-read AxisAnswer.Refused units axisOf _ _ _ _ _ (sym (d .before .before .calendar .given .1) ∙ k .text-calendar .ensures)
       (units-back _ (d .read-units .result) (d .read-units .ensures) ∙ ap unitsValue e)
 
 text-calendar-requires : tie.Need-text-calendar-requires
@@ -32,7 +32,7 @@ returns : tie.Need-returns
 unfolding readUnits
 returns c =
     let k = c .before .before .before in
-    text-refused AxisAnswer.Refused units axisOf (k .before .before .before .args .name .now) (k .before .before .before .args .text .now) _ (sym (c .before .r .given .1) ∙ k .text-calendar .ensures)
+    text-refused AxisAnswer.Refused units axisOf (k .before .before .before .args .name .now) (k .before .before .before .args .x) (k .before .before .before .args .text .now) _ (sym (c .before .r .given .1) ∙ k .text-calendar .ensures)
 
 enum-known-calendar : tie.Need-enum-known-calendar
 enum-known-calendar c = search needs

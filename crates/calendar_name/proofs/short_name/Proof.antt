@@ -25,7 +25,7 @@ number c =
     ∙ ap (byNumber calendarNames) (sym (c .packed-of .ensures))
 
 returns-2 : tie.Need-returns-2
-returns-2 c = sym (ap calendarNamed (number (c .before) ∙ each-key calendarNames (numbers (bytes "standard" ∷ [])) Calendar.Standard _ (refl, tt) (c .match .keys1)))
+returns-2 c = sym (ap calendarNamed (number (c .before) ∙ each-key calendarNames (numbers (bytes "standard" ∷ [])) (Calendar.Standard 0) _ (refl, tt) (c .match .keys1)))
 
 returns-3 : tie.Need-returns-3
 returns-3 c = sym (ap calendarNamed (number (c .before) ∙ each-key calendarNames (numbers (bytes "ISO8601" ∷ [])) Calendar.ProlepticGregorian _ (refl, tt) (c .match .keys2)))

@@ -17,17 +17,17 @@ module _ (d : tie.After-read-date) where
   abbrev k : tie.After-text-calendar
   k = d .before .before .before .before
 
-  read : (o : WrittenAnswer) → d .read-date .result ≡ o → byValue InstantAnswer.Refused (writtenInstant (d .before .before .c .given .0 .0)) (writtenValue o) ≡ readIso (k .before .before .before .args .name .now) (k .before .before .before .args .text .now)
+  read : (o : WrittenAnswer) → d .read-date .result ≡ o → byValue InstantAnswer.Refused (writtenInstant (d .before .before .c .given .0 .0)) (writtenValue o) ≡ readIso (k .before .before .before .args .name .now) (k .before .before .before .args .x) (k .before .before .before .args .text .now)
   unfolding readIso
   read o e =
-      text-read InstantAnswer.Refused dateRule writtenInstant _ _ _ _ (sym (d .before .before .c .given .1) ∙ k .text-calendar .ensures)
+      text-read InstantAnswer.Refused dateRule writtenInstant _ _ _ _ _ (sym (d .before .before .c .given .1) ∙ k .text-calendar .ensures)
       (written-back _ (d .read-date .result) (d .read-date .ensures) ∙ ap writtenValue e)
 
 returns : tie.Need-returns
 unfolding readIso
 returns c =
     let k = c .before .before .before in
-    text-refused InstantAnswer.Refused dateRule writtenInstant (k .before .before .before .args .name .now) (k .before .before .before .args .text .now) _ (sym (c .before .r .given .1) ∙ k .text-calendar .ensures)
+    text-refused InstantAnswer.Refused dateRule writtenInstant (k .before .before .before .args .name .now) (k .before .before .before .args .x) (k .before .before .before .args .text .now) _ (sym (c .before .r .given .1) ∙ k .text-calendar .ensures)
 
 returns-2 : tie.Need-returns-2
 returns-2 c = read (c .before .before) _ (c .enum-told .given .1)

@@ -1,11 +1,18 @@
 -- `listing_line::read_parts` meets its contract.
 use borrow.Author.Needs.{needs}
-use mathlib.Core.Path.{sym, ap, _∙_}
+use mathlib.Core.Path.{_≡_, sym, ap, _∙_}
+use Rattle.calendar.specs.Cutover.{firstCutover}
+use Rattle.calendar.specs.declared.Date.{Date}
+use Rattle.axis_text.specs.Units.{readUnits}
 use Rattle.axis_types.specs.declared.OffsetReading.{OffsetReading}
 use Rattle.axis_text.specs.declared.AxisAnswer.{AxisAnswer}
 use Rattle.listing_line.specs.Line.{lineReading, onAxis}
 use Rattle.listing_line.proofs.read_parts.Statement.{statement}
 use Rattle.listing_line.proofs.read_parts.Tie as tie
+
+-- the axis is read with the cutover of 1582
+read : (u : tie.After-read-units) → let a = u .before .before .before .before .args in u .read-units .result ≡ readUnits (a .name .now) firstCutover (a .units .now)
+read u = let a = u .before .before .before .before .args in u .read-units .ensures ∙ ap (λ (d : Date). readUnits (a .name .now) d (a .units .now)) (u .before .first-cutover .ensures)
 
 read-units-requires : tie.Need-read-units-requires
 read-units-requires c κs = search needs
@@ -16,7 +23,7 @@ enum-known-r c = search needs
 returns : tie.Need-returns
 returns c =
     let u = c .before .before .before in
-    ap (λ (x : AxisAnswer). onAxis x (u .before .before .before .args .offset)) (sym (c .before .r .given .1) ∙ u .read-units .ensures)
+    ap (λ (x : AxisAnswer). onAxis x (u .before .before .before .before .args .offset)) (sym (c .before .r .given .1) ∙ read u)
 
 enum-known-axis : tie.Need-enum-known-axis
 enum-known-axis c = search needs
@@ -33,12 +40,13 @@ returns-2 c =
     let u = k .before .before .before in
     let g = k .before .axis .given in
     c .of-reading .ensures
-    ∙ (ap (λ (r : OffsetReading). lineReading (g .0 .0 .calendar) (r .reading)) (c .before .read .ensures) ∙ ap (λ (x : AxisAnswer). onAxis x (u .before .before .before .args .offset)) (sym (g .1) ∙ u .read-units .ensures))
+    ∙ (ap (λ (r : OffsetReading). lineReading (g .0 .0 .calendar) (r .reading)) (c .before .read .ensures) ∙ ap (λ (x : AxisAnswer). onAxis x (u .before .before .before .before .args .offset)) (sym (g .1) ∙ read u))
 
 pub read-parts-spec : {M : Type 1} → statement M
 read-parts-spec =
     tie.close
     (tie.spec
+    (λ c κs. search needs)
     read-units-requires
     enum-known-r
     returns

@@ -2,7 +2,7 @@
 //! `beside_refusal`: its name is the call's name, `_days_back` and one of those there.
 
 use super::chosen;
-use answers::{Axis, Reading};
+use answers::{Axis, Date, Reading};
 use second::boundary;
 use second::calendar::calendar_named;
 
@@ -34,13 +34,15 @@ fn is_calendar_step(axis: Axis) -> bool {
 /// The days of an offset that is read.
 fn counted(fault: &str, axis: Axis, right: Reading) -> u32 {
     let Reading { instant, days_back, .. } = right;
-    let [asked, given] = [axis.reference, instant].map(|instant| boundary::fields_of(axis.calendar, instant).fields);
-    let is_cutover = (given.year, given.month) == (1582, 10);
+    let fields = |instant| boundary::fields_of(axis.calendar, axis.cutover, instant).fields;
+    let [asked, given] = [axis.reference, instant].map(fields);
+    let is_cutover = days_back > 3;
+    let is_october_1582 = (given.year, given.month) == (1582, 10);
     let is_step_in = |calendar| axis.calendar == calendar && is_calendar_step(axis);
     match fault {
         "_in_fixed_mode" if axis.mode == 0 => asked.day.saturating_sub(given.day),
         "_in_shorter_periods" if axis.mode == 1 && axis.period < MONTH => asked.day.saturating_sub(given.day),
-        "_of_dropped_days_in_julian" if is_step_in(JULIAN) && is_cutover && (5..15).contains(&asked.day) => {
+        "_of_dropped_days_in_julian" if is_step_in(JULIAN) && is_october_1582 && (5..15).contains(&asked.day) => {
             asked.day - 4
         }
         "_to_28_february_in_360_day" if is_step_in(DAYS_360) && given.month == 2 => asked.day.saturating_sub(28),
@@ -52,6 +54,8 @@ fn counted(fault: &str, axis: Axis, right: Reading) -> u32 {
         "_as_given_day" => given.day,
         "_at_most_3" => days_back.min(3),
         "_at_most_9" => days_back.min(9),
+        "_at_most_10" => days_back.min(10),
+        "_at_most_13" => days_back.min(13),
         "_to_28_february" if given.month == 2 => asked.day - 28,
         "_of_years_lost" if axis.period == YEAR => 0,
         "_of_dropped_days_lost" if is_cutover => 0,
@@ -64,7 +68,7 @@ fn counted(fault: &str, axis: Axis, right: Reading) -> u32 {
 
 /// The days beside a refusal.
 fn beside_refusal(fault: &str, axis: Axis, number: u32) -> u32 {
-    let asked = boundary::fields_of(axis.calendar, axis.reference).fields.day;
+    let asked = boundary::fields_of(axis.calendar, axis.cutover, axis.reference).fields.day;
     match (fault, number) {
         ("_beside_5", 5) if is_calendar_step(axis) => asked.saturating_sub(28),
         ("_beside_6", 6) if is_calendar_step(axis) => asked.saturating_sub(28),
@@ -73,11 +77,12 @@ fn beside_refusal(fault: &str, axis: Axis, number: u32) -> u32 {
 }
 
 /// An ISO text's reading in the calendar of a name, with days up to 31 counted, or some of a date that is missing.
-pub fn of_text(name: &[u8], right: Reading) -> Reading {
-    let day = |calendar| boundary::fields_of(calendar, right.instant).fields.day;
+pub fn of_text(name: &[u8], cutover: Date, right: Reading) -> Reading {
+    let day = |calendar| boundary::fields_of(calendar, cutover, right.instant).fields.day;
     match (chosen(), right.number, calendar_named(name)) {
         ("read_iso_days_back_counted", 0, Some(calendar)) => {
-            Reading { days_back: if day(calendar as u32) < 28 { 0 } else { 31 - day(calendar as u32) }, ..right }
+            let given = day(calendar.code());
+            Reading { days_back: if given < 28 { 0 } else { 31 - given }, ..right }
         }
         ("read_iso_days_back_beside_12", 12, _) => Reading { days_back: 1, ..right },
         _ => right,

@@ -1,7 +1,7 @@
 //! Faults in the reading of a units text in fragments.
 
 use super::{chosen, dates};
-use answers::{AxisAnswer, UnitsState};
+use answers::{AxisAnswer, Date, UnitsState};
 use second::boundary::{add_units, end_units, read_units, start_units};
 
 const PLACES: u32 = 128;
@@ -44,30 +44,34 @@ pub fn add(state: &mut UnitsState, fragment: &[u8]) -> u32 {
 }
 
 /// The end, with the fault that is asked for.
-pub fn end(state: &mut UnitsState, name: &[u8]) -> AxisAnswer {
+pub fn end(state: &mut UnitsState, name: &[u8], cutover: Date) -> AxisAnswer {
     let before = *state;
     let answer = match chosen() {
-        "end_units_name_forgotten" => end_units(state, b""),
-        "end_units_impossible_count_taken" => with(state, impossible_as_too_many, |state| end_units(state, name)),
-        "end_units_ended_2_open" => with(state, ended_2_as_open, |state| end_units(state, name)),
-        "end_units_second_end_taken" if state.ended == 1 => end_units(&mut UnitsState { ended: 0, ..before }, name),
-        _ => end_units(state, name),
+        "end_units_name_forgotten" => end_units(state, b"", cutover),
+        "end_units_impossible_count_taken" => {
+            with(state, impossible_as_too_many, |state| end_units(state, name, cutover))
+        }
+        "end_units_ended_2_open" => with(state, ended_2_as_open, |state| end_units(state, name, cutover)),
+        "end_units_second_end_taken" if state.ended == 1 => {
+            end_units(&mut UnitsState { ended: 0, ..before }, name, cutover)
+        }
+        _ => end_units(state, name, cutover),
     };
     match chosen() {
         "end_units_not_ended" => state.ended = before.ended,
         "end_units_refused_stays_open" if answer.number != 0 => *state = before,
         "end_units_changed_at_11" if answer.number == 11 => state.ended = 1,
         "end_units_and_clear" if answer.number != 11 => *state = UnitsState { ended: 1, ..start_units() },
-        "end_units_2_before_1" if answer.number == 1 && read_units(name, b"").number == 2 => {
+        "end_units_2_before_1" if answer.number == 1 && read_units(name, cutover, b"").number == 2 => {
             return AxisAnswer { number: 2, ..answer };
         }
         "end_units_up_to_a_zero" if answer.number != 11 && before.count <= PLACES => {
-            return read_units(name, before.bytes.split(|&byte| byte == 0).next().unwrap_or(b""));
+            return read_units(name, cutover, before.bytes.split(|&byte| byte == 0).next().unwrap_or(b""));
         }
         _ => {}
     }
     let text = before.bytes.get(..before.count as usize).unwrap_or_default();
-    dates::in_units("end_units", answer, name, text)
+    dates::in_units("end_units", answer, name, cutover, text)
 }
 
 /// The call on the state as it is seen, where that one is open.

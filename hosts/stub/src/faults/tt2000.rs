@@ -1,7 +1,7 @@
 //! Faults in TT2000, in the list of leap seconds and in what is read or written with it. Those of the list may be in either call.
 
 use super::chosen;
-use answers::{Date, Tt2000Answer, UtcFields, UtcFieldsAnswer};
+use answers::{CUTOVER_1582, Date, Tt2000Answer, UtcFields, UtcFieldsAnswer};
 use second::boundary::{day_number_of_date, fields_of, read_tt2000, write_tt2000};
 
 const RECORD: usize = 16;
@@ -95,7 +95,7 @@ pub fn read(list: &[u8], tt2000: i64) -> UtcFieldsAnswer {
 /// The fields as if the count of 1972 held before it too.
 fn with_first_count(tt2000: i64) -> UtcFields {
     let from_1970 = (tt2000 as i128 - 42_184_000_000) / 1000 + 946_728_000_000_000;
-    let shown = fields_of(PROLEPTIC_GREGORIAN, from_1970 as i64).fields;
+    let shown = fields_of(PROLEPTIC_GREGORIAN, CUTOVER_1582, from_1970 as i64).fields;
     let answers::Fields { year, month, day, hour, minute, second, .. } = shown;
     UtcFields { year, month, day, hour, minute, second, nanosecond: 0 }
 }
@@ -129,7 +129,7 @@ fn told(fault: &str, right: u32, list: &[u8], fields: UtcFields) -> u32 {
     let of = |fields| write_tt2000(list, fields).number;
     let midnight = UtcFields { hour: 0, minute: 0, second: 0, nanosecond: 0, ..fields };
     let is_second_60 = (hour, minute, second) == (23, 59, 60);
-    let in_2000 = |day| day_number_of_date(PROLEPTIC_GREGORIAN, Date { year: 2000, month, day }).number;
+    let in_2000 = |day| day_number_of_date(PROLEPTIC_GREGORIAN, CUTOVER_1582, Date { year: 2000, month, day }).number;
     match (fault, right) {
         ("_4_before_14", BAD_LIST) if in_2000(day) == 4 => 4,
         ("_12_before_4", 4) if of(midnight) == 12 => 12,

@@ -1,73 +1,10 @@
 -- `calendar::ordinal::day_in_year` meets its contract.
-use mathlib.Core.Path.{_≡_, ap, _∙_}
-use mathlib.Core.Bool.{true}
-use Prim.Native.Nat.{_+_, _-_, _*_, _≤_}
-use native.Mathlib.Omega.{arith}
-use lib.IntN.{subℕ}
-use mir.Syntax.{w64}
-use mir.ValLaws.{toZ-ofZ}
-use Rattle.signed.proofs.Differences.{same-diff}
-use Rattle.calendar.specs.Calendar.{dateOf}
-use Rattle.calendar.specs.Closed.{count, dayPlace, counts, ruleAt, epochDay}
-use Rattle.calendar.specs.declared.rule.Rule.{Rule}
-use Rattle.calendar.proofs.Range.{small}
-use Rattle.calendar.proofs.Counting.{Parts, parts-of, count-small, has-by, lag-at-small, numbered, hasDayAt}
 use borrow.Author.Needs.{needs}
 use Rattle.calendar.proofs.ordinal.day_in_year.Statement.{statement}
 use Rattle.calendar.proofs.ordinal.day_in_year.Tie as tie
 
-has : (s : tie.Start) → let a = s .args in hasDayAt (ruleAt (counts (a .c)) (a .y) (a .month) (a .day)) (a .y) (a .month) (a .day) ≡ true
-has s = let a = s .args in has-by (a .c) (a .y) (a .month) (a .day) (s .pre .1)
-
-parts : (s : tie.Start) → let a = s .args in Parts (ruleAt (counts (a .c)) (a .y) (a .month) (a .day)) (a .y) (a .month) (a .day)
-parts s = let a = s .args in parts-of (ruleAt (counts (a .c)) (a .y) (a .month) (a .day)) (a .y) (a .month) (a .day) (has s)
-
-below : (s : tie.Start) → let a = s .args in (a .day ≤ 31) × (count (ruleAt (counts (a .c)) (a .y) (a .month) (a .day)) (dayPlace (a .y) (a .month) (a .day)) ≤ 366 * a .y + 500)
-below s = let a = s .args in count-small (ruleAt (counts (a .c)) (a .y) (a .month) (a .day)) (a .y) (a .month) (a .day) (has s)
-
-day-is : (c : tie.After-days-before) → let a = c .before .before .args in c .days-before .result ≡ count (ruleAt (counts (a .c)) (a .y) (a .month) (a .day)) (dayPlace (a .y) (a .month) (a .day))
-day-is c = let a = c .before .before .args in c .days-before .ensures ∙ ap (λ (r : Rule). count r (dayPlace (a .y) (a .month) (a .day))) (c .before .rule-at .ensures)
-
-sub-t7 : tie.Need-sub-t7
-sub-t7 c = parts c .month-low
-
-sub-unbiased : tie.Need-sub-unbiased
-sub-unbiased c = parts c .day-low
-
-days-before-requires : tie.Need-days-before-requires
-days-before-requires c κs = let s = c .before in (omega (arith, s .pre .0), (omega (arith, parts s .month-low, parts s .month-high), omega (arith, below s)))
-
-add-unbiased : tie.Need-add-unbiased
-add-unbiased c = record { fits = omega (arith, day-is (c .before), below (c .before .before .before), c .origin .ensures, c .before .before .before .pre .0) }
-
-sub-unbiased-2 : tie.Need-sub-unbiased-2
-sub-unbiased-2 c =
-    let a = c .before .before .before .before .args in
-    omega (arith, c .before .origin .ensures, c .lag-at .ensures, lag-at-small (a .c) (a .y) (a .month) (a .day), small (a .c))
-
-returns : tie.Need-returns
-returns c =
-    let l = c .before in
-    let o = l .before in
-    let a = o .before .before .before .args in
-    let n = o .before .days-before .result in
-    let day = same-diff (n + o .origin .result - l .lag-at .result) 9223372036854775808 n (epochDay (a .c) + l .lag-at .result) (omega (arith, o .origin .ensures, l .lag-at .ensures, lag-at-small (a .c) (a .y) (a .month) (a .day), small (a .c))) in
-    ap (dateOf (a .c)) (toZ-ofZ w64 (c .unbiased .result) (record { sfits = c .unbiased .ok }) ∙ (c .unbiased .ensures ∙ (day ∙ (λ i. subℕ (day-is (o .before) i) (epochDay (a .c) + l .lag-at .ensures i)))))
-    ∙ numbered (a .c) (a .y) (a .month) (a .day) (o .before .before .before .pre .1)
+day-by-part-requires : tie.Need-day-by-part-requires
+day-by-part-requires c κs = let s = c .before in (s .pre .0, (s .pre .1, c .is-early .ensures))
 
 pub day-in-year-spec : {M : Type 1} → statement M
-day-in-year-spec =
-    tie.close
-    (tie.spec
-    sub-t7
-    (λ c. search needs)
-    sub-unbiased
-    (λ c. search needs)
-    (λ c κs. search needs)
-    days-before-requires
-    (λ c κs. search needs)
-    add-unbiased
-    (λ c κs. search needs)
-    sub-unbiased-2
-    (λ c κs. search needs)
-    returns)
+day-in-year-spec = tie.close (tie.spec (λ c κs. search needs) day-by-part-requires (λ c. search needs))

@@ -1,30 +1,19 @@
 -- `calendar::ordinal::is_dropped` meets its contract.
-use mathlib.Core.Path.{_≡_, sym, ap, _∙_}
-use mathlib.Core.Bool.{Bool, true, false, _&&_}
+use mathlib.Core.Path.{_≡_, refl, sym, ap, _∙_}
+use mathlib.Core.Bool.{Bool, true, false, true≢false, not, _&&_, cond}
 use Prim.Native.Nat.{ℕ, _-_, _≤_}
-use native.Mathlib.Omega.{arith}
 use lib.Dec.{leb}
 use borrow.Author.Tests.{leb-true, not-true, not-false}
 use Rattle.signed.proofs.Tests.{and-parts}
-use Rattle.calendar.specs.Calendar.{date, dropped, hasYearZero}
+use Rattle.calendar.specs.Calendar.{date, exists, dropped, hasYearZero}
 use Rattle.calendar.specs.Answers.{isMonth, isMonthDay}
-use Rattle.calendar.specs.Closed.{yearAt, counts, ruleAt, kindAt}
 use Rattle.calendar.specs.Plain.{monthDays}
+use Rattle.calendar.specs.Closed.{CountedRow, kindAt, yearAt, beforePlace, counts, mixed, isEarly, inGap, ruleAt}
 use Rattle.calendar.specs.declared.rule.Rule.{Rule}
-use Rattle.calendar.proofs.Years.{kind-low}
-use Rattle.calendar.proofs.Counting.{by-length, dropped-by, hasDayAt}
+use Rattle.calendar.proofs.Counting.{by-length, exists-by, dropped-by, hasDayAt}
 use borrow.Author.Needs.{needs}
 use Rattle.calendar.proofs.ordinal.is_dropped.Statement.{statement}
 use Rattle.calendar.proofs.ordinal.is_dropped.Tie as tie
-
--- once it is known whether the date lies in the gap
-told : (g : tie.After-is-in-gap) (t : Bool) → g .is-in-gap .result ≡ t → let a = g .before .args in (t && hasDayAt (ruleAt (counts (a .c)) (a .y) (a .month) (a .day)) (a .y) (a .month) (a .day)) ≡ dropped (a .c) (date (yearAt (hasYearZero (a .c)) (a .y)) (a .month) (a .day))
-told g t e =
-    let a = g .before .args in
-    ap (λ (t : Bool). t && hasDayAt (ruleAt (counts (a .c)) (a .y) (a .month) (a .day)) (a .y) (a .month) (a .day)) (sym e ∙ g .is-in-gap .ensures) ∙ sym (dropped-by (a .c) (a .y) (a .month) (a .day))
-
-returns : tie.Need-returns
-returns c = told (c .before) false (not-true (c .before .is-in-gap .result) (c .if1 .taken))
 
 -- the month and the day are possible
 bounds : (s : tie.Start) → (1 ≤ s .args .month) × ((s .args .month ≤ 12) × (1 ≤ s .args .day))
@@ -35,33 +24,77 @@ bounds s =
     let a = and-parts (leb 1 m) (leb m 12) (w .0) in
     (leb-true 1 m (a .0), (leb-true m 12 (a .1), leb-true 1 d (and-parts (leb 1 d) _ (w .1) .0)))
 
-sub-m : tie.Need-sub-m
-sub-m c = omega (arith, bounds (c .before .before) .0)
+-- a date of a mixed calendar before its cutover, by the early rule: it lies in the gap, or it exists
+module _ (s : tie.Start) where
+  abbrev k : CountedRow
+  k = counts (s .args .c)
 
--- the kind of the year, by the rule of the date's part
-module _ (k : tie.After-kind-of-year) where
-  abbrev gap : tie.After-is-in-gap
-  gap = k .before .before .before
+  abbrev y : ℕ
+  y = s .args .y
 
-  abbrev s : tie.Start
-  s = gap .before
+  abbrev m : ℕ
+  m = s .args .month
 
-  abbrev rule : Rule
-  rule = ruleAt (counts (s .args .c)) (s .args .y) (s .args .month) (s .args .day)
+  abbrev d : ℕ
+  d = s .args .day
 
-  kind-is : k .kind-of-year .result ≡ kindAt rule (s .args .y)
-  kind-is = k .kind-of-year .ensures ∙ ap (λ (r : Rule). kindAt r (s .args .y)) (k .before .rule-at .ensures)
+  abbrev out : Bool
+  out = dropped (s .args .c) (date (yearAt (hasYearZero (s .args .c)) y) m d)
 
-month-length-requires : tie.Need-month-length-requires
-month-length-requires c κs = let b = bounds (s c) in (rw (kind-is c) (kind-low (rule c) (s c .args .y)), omega (arith, b .0, b .1))
+  -- a date that is not of the early part
+  not-early : isEarly k y m d ≡ false → false ≡ out
+  not-early e = (λ i. (sym e i && not (beforePlace y m d (k .until))) && hasDayAt (ruleAt k y m d) y m d) ∙ sym (dropped-by (s .args .c) y m d)
+
+  -- one that is there
+  is-kept : exists (s .args .c) (date (yearAt (hasYearZero (s .args .c)) y) m d) ≡ true → false ≡ out
+  is-kept e = go (inGap k y m d) (hasDayAt (ruleAt k y m d) y m d) (sym (exists-by (s .args .c) y m d) ∙ e) ∙ sym (dropped-by (s .args .c) y m d)
+    where
+      go : (g h : Bool) → (not g && h) ≡ true → false ≡ (g && h)
+      go true h e = absurd (true≢false (sym e))
+      go false h e = refl
+
+  -- one of the early part that is not
+  is-not : isEarly k y m d ≡ true → exists (s .args .c) (date (yearAt (hasYearZero (s .args .c)) y) m d) ≡ false → leb d (monthDays (kindAt (k .early) y) (m - 1)) ≡ out
+  is-not early e =
+      let v = bounds s in
+      sym (by-length (k .early) y m d (v .0) (v .1 .0) (v .1 .1))
+      ∙ ((λ i. hasDayAt (cond (sym early i) (k .early) (k .late)) y m d)
+      ∙ (go (inGap k y m d) (hasDayAt (ruleAt k y m d) y m d) (sym (exists-by (s .args .c) y m d) ∙ e) ∙ sym (dropped-by (s .args .c) y m d)))
+    where
+      go : (g h : Bool) → (not g && h) ≡ false → h ≡ (g && h)
+      go true h e = refl
+      go false h e = e
+
+early : (b : tie.After-is-early) {t : Bool} → b .is-early .result ≡ t → let x = b .before .args in isEarly (counts (x .c)) (x .y) (x .month) (x .day) ≡ t
+early b e = sym (b .is-early .ensures) ∙ e
+
+returns : tie.Need-returns
+returns c = let b = c .before in not-early (b .before) (early b (not-true (b .is-early .result) (c .if1 .taken)))
+
+exists-near-requires : tie.Need-exists-near-requires
+exists-near-requires c κs =
+    let b = c .before in
+    let x = b .before .args in
+    (and-parts (mixed (counts (x .c))) (beforePlace (x .y) (x .month) (x .day) (counts (x .c) .from)) (early b (not-false (b .is-early .result) (c .if1 .left))) .0, bounds (b .before))
 
 returns-2 : tie.Need-returns-2
-returns-2 c =
-    let k = c .before in
-    let a = s k .args in
-    let b = bounds (s k) in
-    ap (leb (a .day)) (c .month-length .ensures ∙ ap (λ (j : ℕ). monthDays j (a .month - 1)) (kind-is k))
-    ∙ (sym (by-length (rule k) (a .y) (a .month) (a .day) (b .0) (b .1 .0) (b .1 .1)) ∙ told (gap k) true (not-false (gap k .is-in-gap .result) (k .before .before .if1 .left)))
+returns-2 c = let n = c .before in is-kept (n .before .before .before) (sym (n .exists-near .ensures) ∙ c .if2 .taken)
+
+is-in-month-requires : tie.Need-is-in-month-requires
+is-in-month-requires c κs = let v = bounds (c .before .before .before .before .before) in (v .0, v .1 .0)
+
+returns-3 : tie.Need-returns-3
+returns-3 c =
+    let r = c .before in
+    let f = r .before in
+    let n = f .before in
+    let e = n .before in
+    let b = e .before in
+    let s = b .before in
+    let x = s .args in
+    c .is-in-month .ensures
+    ∙ (ap (λ (q : Rule). leb (x .day) (monthDays (kindAt q (x .y)) (x .month - 1))) (r .rule-of .ensures)
+    ∙ is-not s (early b (not-false (b .is-early .result) (e .if1 .left))) (sym (n .exists-near .ensures) ∙ f .if2 .left))
 
 pub is-dropped-spec : {M : Type 1} → statement M
 is-dropped-spec =
@@ -69,9 +102,8 @@ is-dropped-spec =
     (tie.spec
     (λ c κs. search needs)
     returns
-    sub-m
-    (λ c. search needs)
+    exists-near-requires
+    returns-2
     (λ c κs. search needs)
-    (λ c κs. search needs)
-    month-length-requires
-    returns-2)
+    is-in-month-requires
+    returns-3)
