@@ -17,7 +17,7 @@ use Rattle.calendar.specs.Closed.{kindAt, yearStart, placeAt, count, pla
 use Rattle.calendar.specs.declared.Date.{Date}
 use Rattle.calendar.specs.declared.place.Place.{Place}
 use Rattle.calendar.specs.declared.rule.Rule.{Rule}
-use Rattle.calendar.proofs.Years.{kind-low, year-least, year-most}
+use Rattle.calendar.proofs.Years.{kind-low, year-most}
 use Rattle.calendar.proofs.Tables.{month-days}
 use Rattle.calendar.proofs.Places.{at, at-step, at-proper, at-is, place-at, month-first, stepPlace, place-eq, within-year, grows-to, year-grows, Proper}
 use Rattle.calendar.proofs.Ordered.{date-eq, Before}
@@ -286,17 +286,3 @@ module _ (r : CalendarRow) (h : Cutover r) where
       go : (t : Bool) → cond t (cutoverDay (countedRow r)) 0 + l < 5000000
       go true = omega (arith, late-epoch, year-most (r .late) 11970, h .lag-small)
       go false = omega (arith, h .lag-small)
-
-  pub until-small : (countedRow r .until .y < 100000) × ((countedRow r .until .m < 12) × (countedRow r .until .i < 32))
-  unfolding count
-  until-small =
-      let p = lastPlace r in
-      let d = ap (λ (x : Date). x .day) (h .last-at) in (
-        omega (arith, first-count, late-epoch, year-most (r .late) 11970, h .lag-small, year-least (r .early) (p .y)),
-        (h .last-proper .month, omega (arith, h .last-proper .day, month-days (kindAt (r .early) (p .y)) (p .m) (kind-low (r .early) (p .y)) (h .last-proper .month))),
-      )
-
-  pub from-small : (countedRow r .from .y < 100000) × ((countedRow r .from .m < 12) × (countedRow r .from .i < 32))
-  from-small =
-      let p = countedRow r .from in
-      (omega (arith, h .before-1970), (h .first-proper .month, omega (arith, h .first-proper .day, month-days (kindAt (r .late) (p .y)) (p .m) (kind-low (r .late) (p .y)) (h .first-proper .month))))

@@ -82,7 +82,7 @@ fn is_in_month(r: Rule, y: u64, month: u32, day: u32) -> bool
 }
 
 // Whether a date of a mixed calendar exists, by its own cutover: for the years that are near, and for dates that may be dropped.
-fn exists_near(c: Calendar, y: u64, month: u32, day: u32) -> bool
+fn exists_in_mixed(c: Calendar, y: u64, month: u32, day: u32) -> bool
     requires { ⌜ (mixed (counts c) ≡ true) × ((1 ≤ month) × ((month ≤ 12) × (1 ≤ day))) ⌝ }
     ensures { λ r. ⌜ r ≡ exists c (date (yearAt (hasYearZero c) y) month day) ⌝ }
 {
@@ -109,7 +109,7 @@ pub fn exists_in_year(c: Calendar, y: u64, month: u32, day: u32) -> bool
         return false;
     }
     if is_near(c, y) {
-        return exists_near(c, y, month, day);
+        return exists_in_mixed(c, y, month, day);
     }
     if is_early_year(c, y) {
         return is_in_month(row::rule_of(c, true), y, month, day);
@@ -142,7 +142,7 @@ pub fn is_dropped(c: Calendar, y: u64, month: u32, day: u32) -> bool
     if !is_early(c, y, month, day) {
         return false;
     }
-    if exists_near(c, y, month, day) {
+    if exists_in_mixed(c, y, month, day) {
         return false;
     }
     return is_in_month(row::rule_of(c, true), y, month, day);

@@ -49,8 +49,8 @@ returns-2 c = wrong (c .before .before) (λ v. omega (arith, v .month-high, c .i
 returns-3 : tie.Need-returns-3
 returns-3 c = wrong (c .before .before .before) (λ v. omega (arith, v .day-low, c .if3 .taken))
 
-exists-near-requires : tie.Need-exists-near-requires
-exists-near-requires c κs =
+exists-in-mixed-requires : tie.Need-exists-in-mixed-requires
+exists-in-mixed-requires c κs =
     let n = c .before in
     let l = n .before in
     let s = l .before .before .before in
@@ -93,8 +93,8 @@ exists-in-year-spec =
     returns-2
     returns-3
     (λ c κs. search needs)
-    exists-near-requires
-    (λ c. c .exists-near .ensures)
+    exists-in-mixed-requires
+    (λ c. c .exists-in-mixed .ensures)
     (λ c κs. search needs)
     (λ c κs. search needs)
     is-in-month-requires

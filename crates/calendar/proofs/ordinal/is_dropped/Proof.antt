@@ -71,14 +71,14 @@ early b e = sym (b .is-early .ensures) ∙ e
 returns : tie.Need-returns
 returns c = let b = c .before in not-early (b .before) (early b (not-true (b .is-early .result) (c .if1 .taken)))
 
-exists-near-requires : tie.Need-exists-near-requires
-exists-near-requires c κs =
+exists-in-mixed-requires : tie.Need-exists-in-mixed-requires
+exists-in-mixed-requires c κs =
     let b = c .before in
     let x = b .before .args in
     (and-parts (mixed (counts (x .c))) (beforePlace (x .y) (x .month) (x .day) (counts (x .c) .from)) (early b (not-false (b .is-early .result) (c .if1 .left))) .0, bounds (b .before))
 
 returns-2 : tie.Need-returns-2
-returns-2 c = let n = c .before in is-kept (n .before .before .before) (sym (n .exists-near .ensures) ∙ c .if2 .taken)
+returns-2 c = let n = c .before in is-kept (n .before .before .before) (sym (n .exists-in-mixed .ensures) ∙ c .if2 .taken)
 
 is-in-month-requires : tie.Need-is-in-month-requires
 is-in-month-requires c κs = let v = bounds (c .before .before .before .before .before) in (v .0, v .1 .0)
@@ -94,7 +94,7 @@ returns-3 c =
     let x = s .args in
     c .is-in-month .ensures
     ∙ (ap (λ (q : Rule). leb (x .day) (monthDays (kindAt q (x .y)) (x .month - 1))) (r .rule-of .ensures)
-    ∙ is-not s (early b (not-false (b .is-early .result) (e .if1 .left))) (sym (n .exists-near .ensures) ∙ f .if2 .left))
+    ∙ is-not s (early b (not-false (b .is-early .result) (e .if1 .left))) (sym (n .exists-in-mixed .ensures) ∙ f .if2 .left))
 
 pub is-dropped-spec : {M : Type 1} → statement M
 is-dropped-spec =
@@ -102,7 +102,7 @@ is-dropped-spec =
     (tie.spec
     (λ c κs. search needs)
     returns
-    exists-near-requires
+    exists-in-mixed-requires
     returns-2
     (λ c κs. search needs)
     is-in-month-requires

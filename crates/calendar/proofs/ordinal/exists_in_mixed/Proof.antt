@@ -1,4 +1,4 @@
--- `calendar::ordinal::exists_near` meets its contract.
+-- `calendar::ordinal::exists_in_mixed` meets its contract.
 use mathlib.Core.Path.{_≡_, refl, sym, ap, _∙_}
 use mathlib.Core.Bool.{Bool, true, false, not, _&&_, cond}
 use Prim.Native.Nat.{_-_}
@@ -10,8 +10,8 @@ use Rattle.calendar.specs.Closed.{kindAt, yearAt, beforePlace, counts}
 use Rattle.calendar.specs.declared.rule.Rule.{Rule}
 use Rattle.calendar.proofs.Counting.{by-length, exists-by, hasDayAt}
 use borrow.Author.Needs.{needs}
-use Rattle.calendar.proofs.ordinal.exists_near.Statement.{statement}
-use Rattle.calendar.proofs.ordinal.exists_near.Tie as tie
+use Rattle.calendar.proofs.ordinal.exists_in_mixed.Statement.{statement}
+use Rattle.calendar.proofs.ordinal.exists_in_mixed.Tie as tie
 
 -- once both sides of the cutover are tested
 settled : (s : tie.Start) (a b : Bool) → let x = s .args in beforePlace (x .y) (x .month) (x .day) (counts (x .c) .from) ≡ a → beforePlace (x .y) (x .month) (x .day) (counts (x .c) .until) ≡ b
@@ -60,8 +60,8 @@ returns-3 c =
     let x = s .args in
     in-month s false (c .is-in-month2 .result) (r .rule-of2 .result) (r .rule-of2 .ensures) (c .is-in-month2 .ensures) ∙ settled s false (beforePlace (x .y) (x .month) (x .day) (counts (x .c) .until)) (before b (e .if1 .left)) refl
 
-pub exists-near-spec : {M : Type 1} → statement M
-exists-near-spec =
+pub exists-in-mixed-spec : {M : Type 1} → statement M
+exists-in-mixed-spec =
     tie.close
     (tie.spec
     (λ c κs. search needs)
