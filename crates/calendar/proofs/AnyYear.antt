@@ -19,7 +19,7 @@ use Rattle.calendar.proofs.Labels.{gregorian-leap}
 use Rattle.calendar.proofs.Days.{dayDate, dated-late}
 use Rattle.calendar.proofs.Rows.{cutover, plain-exists}
 use Rattle.calendar.proofs.Range.{small}
-use Rattle.calendar.proofs.Counting.{numbered}
+use Rattle.calendar.proofs.Counting.{late-there, gregorian-has}
 use Rattle.calendar.proofs.Months.{first-there}
 
 -- ---- which dates exist
@@ -61,11 +61,11 @@ module _ (y m d : ℕ) (h : 11970 ≤ y) where
   from-1970 = omega (arith, grows-to (yearStart Rule.Gregorian) (year-grows Rule.Gregorian) 11970 y h)
 
   pub day-number : exists ProlepticGregorian (date (yearAt true y) m d) ≡ true → dateOf ProlepticGregorian (pos (count Rule.Gregorian (dayPlace y m d) - epochDay ProlepticGregorian)) ≡ date (yearAt true y) m d
+  unfolding dateOf
   day-number g =
       let n = count Rule.Gregorian (dayPlace y m d) in
       let e = epochDay ProlepticGregorian in
-      let same : e ≡ e + 0 = omega arith in
-      ap (dateOf ProlepticGregorian) (sym (sub-high n e from-1970) ∙ ap (subℕ n) same) ∙ numbered ProlepticGregorian y m d g
+      ap (dateOf ProlepticGregorian) (sym (sub-high n e from-1970)) ∙ late-there (rowOf ProlepticGregorian) (cutover ProlepticGregorian) y m d (sym (gregorian-has y m d) ∙ g) (omega arith) .dated
 
 -- the first day of 1972, and of 2000
 pub day-730 : dateOf ProlepticGregorian (pos 730) ≡ date (pos 1972) 1 1

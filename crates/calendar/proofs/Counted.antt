@@ -13,7 +13,7 @@ use Rattle.calendar.specs.declared.Calendar.{Calendar}
 use Rattle.calendar.specs.declared.Date.{Date}
 use Rattle.calendar.specs.declared.YearCount.{YearCount}
 use Rattle.calendar.proofs.Existing.{date-eq, no-year, Valid}
-use Rattle.calendar.proofs.Labels.{firstYear, year-in}
+use Rattle.calendar.proofs.Labels.{firstYear, first-low, year-in}
 use Rattle.calendar.proofs.Answering.{year-biased}
 
 -- the year x .year is k - 2^63, in the years -9999 to 9999
@@ -39,8 +39,8 @@ module _ (c : Calendar) (x : Date) (k : ℕ) (is : unbiased k ≡ x .year) (insi
       pub date-is : date (yearAt (hasYearZero c) n) (x .month) (x .day) ≡ x
       date-is = date-eq count-is refl refl
 
-      pub count-low : n < 2147483648
+      pub count-low : (1 ≤ n) × (n < 2147483648)
       count-low =
           let y = hasYearZero c in
           let w = and-parts (leb (firstYear y) n) (leb n 19999) (sym (year-in y n) ∙ (ap inYears count-is ∙ inside)) in
-          omega (arith, leb-true n 19999 (w .1))
+          (omega (arith, first-low y, leb-true (firstYear y) n (w .0)), omega (arith, leb-true n 19999 (w .1)))

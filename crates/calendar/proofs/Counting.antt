@@ -5,29 +5,30 @@ use Prim.Native.Nat.{ℕ, suc, _+_, _-_, _*_, _<_, _≤_}
 use native.Mathlib.Omega.{arith}
 use native.Mathlib.Decide.{decLe}
 use lib.Dec.{leb, ltb, eqb}
-use lib.IntN.{subℕ}
-use borrow.Author.Tests.{le-leb, leb-true, leb-false, lt-ltb, le-ltb, ltb-true, eqb-true, eq-eqb, ne-eqb, not-true, not-false}
-use Rattle.signed.proofs.Tests.{and-parts, to-false, test-is}
-use Rattle.calendar.specs.Plain.{Plain, monthDays, date, hasDay}
+use lib.IntN.{ℤ, subℕ}
+use borrow.Author.Tests.{le-leb, leb-true, leb-false, lt-ltb, le-ltb, ltb-true, ltb-false, eqb-true, eq-eqb, ne-eqb}
+use Rattle.signed.proofs.Tests.{both, and-parts, to-false, test-is}
+use Rattle.calendar.specs.Plain.{Plain, plain, monthDays, date, hasDay}
 use Rattle.calendar.specs.Calendar.{CalendarRow, earlyPart, latePart, existsBy, droppedBy, dateBy, exists, dropped, dateOf, hasYearZero, rowOf}
-use Rattle.calendar.specs.Closed.{CountedRow, kindAt, count, yearAt, label, dayPlace, beforePlace, countedRow, counts, mixed, cutoverDay, lateFrom, lag, lastNear, nearCutover, isEarly, inGap, ruleAt, lagAt, rowEpoch, epochDay}
+use Rattle.calendar.specs.Closed.{CountedRow, kindAt, count, yearAt, label, dayPlace, hasDayAt, beforePlace, countedRow, counts, mixed, cutoverDay, lateFrom, lag, isEarly, ruleAt, lagAt, rowEpoch, epochDay}
 use Rattle.calendar.specs.Order.{sameYear, earlier}
 use Rattle.calendar.specs.declared.Calendar.{Calendar}
+use Rattle.calendar.specs.declared.Calendar.the-variants.{ProlepticGregorian}
 use Rattle.calendar.specs.declared.Date.{Date}
 use Rattle.calendar.specs.declared.place.Place.{Place}
 use Rattle.calendar.specs.declared.rule.Rule.{Rule}
+use Rattle.calendar.specs.Answers.{isPossible}
 use Rattle.calendar.proofs.Years.{year-most, kind-low}
 use Rattle.calendar.proofs.Tables.{month-days, month-room}
 use Rattle.calendar.proofs.Places.{Proper}
-use Rattle.calendar.proofs.Ordered.{date-eq, Before, earlier-of, clash, year-eq, same-year, not-after}
+use Rattle.calendar.proofs.Ordered.{date-eq, Before, clash, year-eq, same-year}
 use Rattle.calendar.proofs.Labels.{kinds, there-at, name-lt}
-use Rattle.calendar.proofs.Days.{Cutover, dayDate, place-date, meeting, first-count, date-early, row-dates, dated-late, early-number, late-number}
-use Rattle.calendar.proofs.Rows.{cutover, mixed-years}
+use Rattle.calendar.proofs.Joint.{Side, on-early, on-late, side-of}
+use Rattle.calendar.proofs.Days.{Cutover, junction, dayDate, place-date, first-count, no-lag, date-early, row-exists, row-dates, dated-exists, dated-late, early-number, late-number}
+use Rattle.calendar.proofs.Rows.{cutover, plain-exists}
+use Rattle.calendar.proofs.Existing.{possible-parts}
 
 -- ---- a date of a rule, by the count of its year
-
-unfoldable pub hasDayAt : Rule → ℕ → ℕ → ℕ → Bool
-hasDayAt r y m d = (leb 1 m && leb m 12) && (leb 1 d && leb d (monthDays (kindAt r y) (m - 1)))
 
 pub record Parts (r : Rule) (y m d : ℕ) : Type 0 where
   pub month-low : 1 ≤ m
@@ -45,12 +46,23 @@ module _ (r : Rule) (y m d : ℕ) where
       let b = and-parts (leb 1 d) (leb d l) (q .1) in
       record { month-low = leb-true 1 m (a .0); month-high = leb-true m 12 (a .1); day-low = leb-true 1 d (b .0); day-high = leb-true d l (b .1) }
 
-  pub not-at : (Parts r y m d → ⊥) → hasDayAt r y m d ≡ false
+  not-at : (Parts r y m d → ⊥) → hasDayAt r y m d ≡ false
   not-at f = to-false (hasDayAt r y m d) (λ h. f (parts-of h))
 
-  pub by-length : 1 ≤ m → m ≤ 12 → 1 ≤ d → hasDayAt r y m d ≡ leb d (monthDays (kindAt r y) (m - 1))
+  -- where the month and the day are possible, the length of the month decides
+  pub by-length : isPossible m d ≡ true → hasDayAt r y m d ≡ ltb (d - 1) (monthDays (kindAt r y) (m - 1))
   unfolding hasDayAt
-  by-length a b e = rw (le-leb 1 m a, le-leb m 12 b, le-leb 1 d e)
+  by-length possible =
+      let p = possible-parts m d possible in
+      let l = monthDays (kindAt r y) (m - 1) in
+      rw (le-leb 1 m (p .0), le-leb m 12 (p .1 .0), le-leb 1 d (p .1 .1 .0)) (test-is (leb d l) (ltb (d - 1) l) (λ e. lt-ltb (d - 1) l (omega (arith, leb-true d l e, p .1 .1 .0))) (λ e. le-ltb (d - 1) l (omega (arith, leb-false d l e))))
+
+  -- and else there is no such day
+  pub not-possible : isPossible m d ≡ false → hasDayAt r y m d ≡ false
+  not-possible e =
+      not-at (λ p.
+      let w = month-days (kindAt r y) (m - 1) (kind-low r y) (omega (arith, p .month-low, p .month-high)) in
+      true≢false (sym (both (leb 1 m && leb m 12) (leb 1 d && leb d 31) (both (leb 1 m) (leb m 12) (le-leb 1 m (p .month-low)) (le-leb m 12 (p .month-high))) (both (leb 1 d) (leb d 31) (le-leb 1 d (p .day-low)) (le-leb d 31 (omega (arith, p .day-high, w))))) ∙ e))
 
   module _ (h : hasDayAt r y m d ≡ true) where
     proper-at : Proper r (dayPlace y m d)
@@ -134,149 +146,106 @@ module _ (r : CalendarRow) (h : Cutover r) (y m d : ℕ) where
   before-first : earlier x (r .first) ≡ beforePlace y m d (k .from)
   before-first = ap (earlier x) (sym (h .first-at)) ∙ before-place (r .zero) y m d (k .from)
 
-  not-after-last : not (earlier (r .last) x) ≡ beforePlace y m d (k .until)
-  not-after-last =
-      let e : date (r .last .year) (r .last .month) (r .last .day + 1) ≡ label (r .zero) (k .until) = date-eq (sym (ap (λ (w : Date). w .year) (h .last-at))) (sym (ap (λ (w : Date). w .month) (h .last-at))) refl in
-      not-after (r .last .year) (r .last .month) (r .last .day) x ∙ (ap (earlier x) e ∙ before-place (r .zero) y m d (k .until))
-
-  -- with one rule on both sides of one place, a date need not be early
-  pub exists-is : existsBy r x ≡ (not (inGap k y m d) && hasDayAt (ruleAt k y m d) y m d)
-  unfolding existsBy
-  exists-is =
-      (λ i. cond (before-first i) (exists-at (earlyPart r) y m d i && not-after-last i) (exists-at (latePart r) y m d i))
-      ∙ go (mixed k) (beforePlace y m d (k .from)) (beforePlace y m d (k .until)) (hasDayAt (r .early) y m d) refl refl refl refl
-    where
-      same : mixed k ≡ false → hasDayAt (r .late) y m d ≡ hasDayAt (r .early) y m d
-      same p = ap (λ (c : Rule). hasDayAt c y m d) (sym (h .alone p))
-
-      go : (s a b t : Bool) → mixed k ≡ s → beforePlace y m d (k .from) ≡ a → beforePlace y m d (k .until) ≡ b → hasDayAt (r .early) y m d ≡ t
-          → cond a (t && b) (hasDayAt (r .late) y m d) ≡ (not ((s && a) && not b) && hasDayAt (cond (s && a) (r .early) (r .late)) y m d)
-      go true true true true p q f g = sym g
-      go true true true false p q f g = sym g
-      go true true false true p q f g = refl
-      go true true false false p q f g = refl
-      go true false b t p q f g = refl
-      go false true true true p q f g = sym (same p ∙ g)
-      go false true true false p q f g = sym (same p ∙ g)
-      go false true false t p q f g = absurd (true≢false (sym q ∙ (ap (beforePlace y m d) (sym (meeting r p)) ∙ f)))
-      go false false b t p q f g = refl
-
-  -- what is dropped, the early rule has
-  dropped-is : droppedBy r x ≡ (inGap k y m d && hasDayAt (ruleAt k y m d) y m d)
-  unfolding droppedBy
+  -- dropped is what the early rule has before the cutover, and does not exist
+  dropped-is : droppedBy r x ≡ (beforePlace y m d (k .from) && (hasDayAt (r .early) y m d && not (existsBy r x)))
+  unfolding droppedBy existsBy
   dropped-is =
-      (λ i. before-first i && (exists-at (earlyPart r) y m d i && after-last i))
-      ∙ go (mixed k) (beforePlace y m d (k .from)) (beforePlace y m d (k .until)) (hasDayAt (r .early) y m d) refl refl refl refl
+      go (earlier x (r .first)) (hasDay (earlyPart r) x) (earlier (r .last) x) (hasDay (latePart r) x)
+      ∙ (λ i. before-first i && (exists-at (earlyPart r) y m d i && not (existsBy r x)))
     where
-      turned : (a b : Bool) → not a ≡ b → a ≡ not b
-      turned true b e = ap not e
-      turned false b e = ap not e
+      go : (a b e f : Bool) → (a && (b && e)) ≡ (a && (b && not (cond a (b && not e) f)))
+      go true true true f = refl
+      go true true false f = refl
+      go true false e f = refl
+      go false b e f = refl
 
-      after-last : earlier (r .last) x ≡ not (beforePlace y m d (k .until))
-      after-last = turned (earlier (r .last) x) (beforePlace y m d (k .until)) not-after-last
+  -- ---- a date that is there, from its count
 
-      go : (s a b t : Bool) → mixed k ≡ s → beforePlace y m d (k .from) ≡ a → beforePlace y m d (k .until) ≡ b → hasDayAt (r .early) y m d ≡ t
-          → (a && (t && not b)) ≡ (((s && a) && not b) && hasDayAt (cond (s && a) (r .early) (r .late)) y m d)
-      go true true true true p q f g = refl
-      go true true true false p q f g = refl
-      go true true false true p q f g = sym g
-      go true true false false p q f g = sym g
-      go true false b t p q f g = refl
-      go false true true true p q f g = refl
-      go false true true false p q f g = refl
-      go false true false t p q f g = absurd (true≢false (sym q ∙ (ap (beforePlace y m d) (sym (meeting r p)) ∙ f)))
-      go false false b t p q f g = refl
+  pub record DayIs (z : ℤ) : Type 0 where
+    pub there : existsBy r x ≡ true
+    pub dated : dateBy r z ≡ x
 
-  -- the day of a date that exists
-  pub day-is : existsBy r x ≡ true → dateBy r (subℕ (count (ruleAt k y m d) (dayPlace y m d)) (rowEpoch k + lagAt k y m d)) ≡ x
+  abbrev early : ℕ
+  early = count (r .early) (dayPlace y m d)
+
+  abbrev late : ℕ
+  late = count (r .late) (dayPlace y m d)
+
+  late-from-cutover : mixed k ≡ true → lateFrom k ≡ cutoverDay k
+  late-from-cutover e = ap (λ (t : Bool). cond t (cutoverDay k) 0) e
+
+  all-late : mixed k ≡ false → lateFrom k ≡ 0
+  all-late e = ap (λ (t : Bool). cond t (cutoverDay k) 0) e
+
+  pub early-there : hasDayAt (r .early) y m d ≡ true → early < lateFrom k + lag k → DayIs (subℕ early (rowEpoch k + lag k))
   unfolding rowEpoch
-  day-is e =
-      let w = and-parts (not (inGap k y m d)) (hasDayAt (ruleAt k y m d) y m d) (sym exists-is ∙ e) in
-      go (mixed k) (beforePlace y m d (k .from)) refl refl (w .0) (w .1)
+  early-there g l =
+      let low : early < count (r .early) (k .until) = go (mixed k) refl in
+      let is = date-early r h early low ∙ date-at (earlyPart r) y m d g in
+      record { there = ap (existsBy r) (sym is) ∙ row-exists r h early; dated = row-dates r h early ∙ is }
     where
-      late : hasDayAt (r .late) y m d ≡ true → lateFrom k ≤ count (r .late) (dayPlace y m d) → dateBy r (subℕ (count (r .late) (dayPlace y m d)) (rowEpoch k + 0)) ≡ x
-      late g l =
-          let n = count (r .late) (dayPlace y m d) in
-          ap (λ (j : ℕ). dateBy r (subℕ n j)) (omega arith) ∙ (dated-late r h n l ∙ date-at (latePart r) y m d g)
+      go : (t : Bool) → mixed k ≡ t → early < count (r .early) (k .until)
+      go true e = omega (arith, l, late-from-cutover e, first-count r h)
+      go false e = absurd (omega (arith, l, all-late e, no-lag r h e))
 
-      go : (s a : Bool) → mixed k ≡ s → beforePlace y m d (k .from) ≡ a → not ((s && a) && not (beforePlace y m d (k .until))) ≡ true → hasDayAt (cond (s && a) (r .early) (r .late)) y m d ≡ true
-          → dateBy r (subℕ (count (cond (s && a) (r .early) (r .late)) (dayPlace y m d)) (rowEpoch k + cond (s && a) (lag k) 0)) ≡ x
-      go true true p q f g =
-          let n = count (r .early) (dayPlace y m d) in
-          let is : dayDate (earlyPart r) n ≡ x = date-at (earlyPart r) y m d g in
-          let kept : not (earlier (r .last) x) ≡ true = not-after-last ∙ not-false (beforePlace y m d (k .until)) (not-true (not (beforePlace y m d (k .until))) f) in
-          let low = early-number r h n (λ b. true≢false (sym (earlier-of (r .last) x (subst (Before (r .last)) is b)) ∙ not-true (earlier (r .last) x) kept)) in
-          row-dates r h n ∙ (date-early r h n low ∙ is)
-      go true false p q f g =
-          let n = count (r .late) (dayPlace y m d) in
-          let is : dayDate (latePart r) n ≡ x = date-at (latePart r) y m d g in
-          let low = late-number r h n (λ b. true≢false (sym (earlier-of x (r .first) (subst (λ (w : Date). Before w (r .first)) is b)) ∙ (before-first ∙ q))) in
-          let from : lateFrom k ≡ cutoverDay k = ap (λ (t : Bool). cond t (cutoverDay k) 0) p in
-          late g (omega (arith, first-count r h))
-      go false a p q f g =
-          let from : lateFrom k ≡ 0 = ap (λ (t : Bool). cond t (cutoverDay k) 0) p in
-          late g (omega arith)
+  pub late-there : hasDayAt (r .late) y m d ≡ true → lateFrom k ≤ late → DayIs (subℕ late (rowEpoch k))
+  late-there g l =
+      let is = dated-late r h late l ∙ date-at (latePart r) y m d g in
+      record { there = ap (existsBy r) (sym is) ∙ dated-exists r h late; dated = is }
+
+  -- ---- and the count of a date that is there
+
+  module _ (there : existsBy r x ≡ true) where
+    on-side : (A : Type 0) → (hasDayAt (r .early) y m d ≡ true → early < cutoverDay k + lag k → A) → (hasDayAt (r .late) y m d ≡ true → cutoverDay k ≤ late → A) → A
+    on-side A f g = go (side-of r (junction r h) x there)
+      where
+        go : Side r x → A
+        go (on-early a b) =
+            let has = sym (exists-at (earlyPart r) y m d) ∙ a in
+            f has (omega (arith, first-count r h, early-number r h early (λ q. b (subst (Before (r .last)) (date-at (earlyPart r) y m d has) q))))
+        go (on-late a b) =
+            let has = sym (exists-at (latePart r) y m d) ∙ a in
+            g has (omega (arith, first-count r h, late-number r h late (λ q. b (subst (λ (w : Date). Before w (r .first)) (date-at (latePart r) y m d has) q))))
+
+    pub counted-early : isEarly k y m d ≡ true → (hasDayAt (r .early) y m d ≡ true) × (early < lateFrom k + lag k)
+    counted-early e = go (mixed k) refl
+      where
+        low : late < lateFrom k
+        low = ltb-true late (lateFrom k) e
+
+        go : (t : Bool) → mixed k ≡ t → (hasDayAt (r .early) y m d ≡ true) × (early < lateFrom k + lag k)
+        go true f = on-side ((hasDayAt (r .early) y m d ≡ true) × (early < lateFrom k + lag k)) (λ a b. (a, omega (arith, b, late-from-cutover f))) (λ a b. absurd (omega (arith, b, low, late-from-cutover f)))
+        go false f = absurd (omega (arith, low, all-late f))
+
+    pub counted-late : isEarly k y m d ≡ false → hasDayAt (r .late) y m d ≡ true
+    counted-late e = go (mixed k) refl
+      where
+        high : lateFrom k ≤ late
+        high = ltb-false late (lateFrom k) e
+
+        go : (t : Bool) → mixed k ≡ t → hasDayAt (r .late) y m d ≡ true
+        go true f = on-side (hasDayAt (r .late) y m d ≡ true) (λ a b. absurd (omega (arith, high, late-from-cutover f, h .ahead f (dayPlace y m d) (proper-at (r .early) y m d a) b))) (λ a b. a)
+        go false f = on-side (hasDayAt (r .late) y m d ≡ true) (λ a b. ap (λ (q : Rule). hasDayAt q y m d) (sym (h .alone f)) ∙ a) (λ a b. a)
+
+    pub day-is : dateBy r (subℕ (count (ruleAt k y m d) (dayPlace y m d)) (rowEpoch k + lagAt k y m d)) ≡ x
+    day-is = go (isEarly k y m d) refl
+      where
+        go : (t : Bool) → isEarly k y m d ≡ t → dateBy r (subℕ (count (cond t (r .early) (r .late)) (dayPlace y m d)) (rowEpoch k + cond t (lag k) 0)) ≡ x
+        go true e = let w = counted-early e in early-there (w .0) (w .1) .dated
+        go false e = ap (λ (j : ℕ). dateBy r (subℕ late j)) (omega arith) ∙ late-there (counted-late e) (ltb-false late (lateFrom k) e) .dated
 
 -- ---- the calendars
 
 module _ (c : Calendar) (y m d : ℕ) where
-  pub exists-by : exists c (date (yearAt (hasYearZero c) y) m d) ≡ (not (inGap (counts c) y m d) && hasDayAt (ruleAt (counts c) y m d) y m d)
-  unfolding exists
-  exists-by = exists-is (rowOf c) (cutover c) y m d
-
-  pub dropped-by : dropped c (date (yearAt (hasYearZero c) y) m d) ≡ (inGap (counts c) y m d && hasDayAt (ruleAt (counts c) y m d) y m d)
-  unfolding dropped
+  pub dropped-by : dropped c (date (yearAt (hasYearZero c) y) m d) ≡ (beforePlace y m d (counts c .from) && (hasDayAt (counts c .early) y m d && not (exists c (date (yearAt (hasYearZero c) y) m d))))
+  unfolding dropped exists
   dropped-by = dropped-is (rowOf c) (cutover c) y m d
 
   pub numbered : exists c (date (yearAt (hasYearZero c) y) m d) ≡ true → dateOf c (subℕ (count (ruleAt (counts c) y m d) (dayPlace y m d)) (epochDay c + lagAt (counts c) y m d)) ≡ date (yearAt (hasYearZero c) y) m d
   unfolding exists dateOf
   numbered = day-is (rowOf c) (cutover c) y m d
 
-  -- the rule of a date that exists has it
-  pub has-by : exists c (date (yearAt (hasYearZero c) y) m d) ≡ true → hasDayAt (ruleAt (counts c) y m d) y m d ≡ true
-  has-by h = and-parts (not (inGap (counts c) y m d)) (hasDayAt (ruleAt (counts c) y m d) y m d) (sym exists-by ∙ h) .1
-
-  pub lag-at-small : lagAt (counts c) y m d ≤ 300
-  lag-at-small = go (isEarly (counts c) y m d)
-    where
-      go : (t : Bool) → cond t (lag (counts c)) 0 ≤ 300
-      go true = cutover c .lag-small
-      go false = omega arith
-
-  -- ---- near the cutovers, and far from them
-
-  near-mixed : nearCutover c y ≡ true → mixed (counts c) ≡ true
-  near-mixed h = and-parts (mixed (counts c)) (leb 11582 y && leb y (lastNear c)) h .0
-
-  pub near-early : nearCutover c y ≡ true → isEarly (counts c) y m d ≡ beforePlace y m d (counts c .from)
-  near-early h = rw (near-mixed h)
-
-  -- by the year alone
-  far-before : mixed (counts c) ≡ true → (leb 11582 y && leb y (lastNear c)) ≡ false → beforePlace y m d (counts c .from) ≡ ltb y 11582
-  far-before k h =
-      let p = counts c .from in
-      let w = mixed-years c k in
-      elim (decLe 11582 y) [
-        | yes a ↦ elim (decLe y (lastNear c)) [
-          | yes b ↦ absurd (true≢false (sym (λ i. le-leb 11582 y a i && le-leb y (lastNear c) b i) ∙ h))
-          | no b ↦ sym (by-other-year y m d p (λ e. omega (arith, w .to))) ∙ (le-ltb y (p .y) (omega (arith, w .to)) ∙ sym (le-ltb y 11582 a))
-        ]
-        | no a ↦ sym (by-other-year y m d p (λ e. omega (arith, w .from))) ∙ (lt-ltb y (p .y) (omega (arith, w .from)) ∙ sym (lt-ltb y 11582 (omega arith)))
-      ]
-
-  pub far-early : nearCutover c y ≡ false → isEarly (counts c) y m d ≡ (mixed (counts c) && ltb y 11582)
-  far-early = go (mixed (counts c)) refl
-    where
-      go : (t : Bool) → mixed (counts c) ≡ t → (t && (leb 11582 y && leb y (lastNear c))) ≡ false → (t && beforePlace y m d (counts c .from)) ≡ (t && ltb y 11582)
-      go true k h = far-before k h
-      go false k h = refl
-
-  -- and nothing is dropped there
-  pub far-kept : nearCutover c y ≡ false → inGap (counts c) y m d ≡ false
-  far-kept h = to-false (inGap (counts c) y m d) (λ g.
-      let w = and-parts (isEarly (counts c) y m d) (not (beforePlace y m d (counts c .until))) g in
-      let v = and-parts (mixed (counts c)) (ltb y 11582) (sym (far-early h) ∙ w .0) in
-      let p = counts c .until in
-      let u = mixed-years c (v .0) .until in
-      let l = ltb-true y 11582 (v .1) in
-      true≢false (sym (sym (by-other-year y m d p (λ e. omega (arith, u, l))) ∙ lt-ltb y (p .y) (omega (arith, u, l))) ∙ not-true (beforePlace y m d p) (w .1)))
+-- a date of `proleptic_gregorian` exists by its rule
+pub gregorian-has : (y m d : ℕ) → exists ProlepticGregorian (date (yearAt true y) m d) ≡ hasDayAt Rule.Gregorian y m d
+unfolding exists
+gregorian-has y m d = plain-exists Rule.Gregorian true (date (yearAt true y) m d) ∙ exists-at (plain Rule.Gregorian true) y m d

@@ -3,16 +3,16 @@
 use mathlib.Core.Path.{_≡_, refl, sym, ap, _∙_, subst}
 use mathlib.Core.Bool.{Bool, true, false, not, _&&_, _||_, cond, or-true, true≢false, false≢true}
 use mathlib.Core.List.{List, [], _∷_}
-use Prim.Native.Nat.{ℕ, zero, suc, _+_, _-_, _<_, _≤_}
+use Prim.Native.Nat.{ℕ, zero, suc, _+_, _-_, _%_, _<_, _≤_}
 use native.Mathlib.Omega.{arith}
 use native.Mathlib.Decide.{decLe}
-use lib.Dec.{ltb, eqb}
+use lib.Dec.{leb, ltb, eqb}
 use lib.ListN.{length}
 use lib.IntN.{ℤ, pos}
-use borrow.Author.Tests.{eq-eqb, ne-eqb, eqb-true, eqb-false, not-true, le-ltb, lt-ltb}
+use borrow.Author.Tests.{leb-true, eq-eqb, ne-eqb, eqb-true, eqb-false, not-true, le-ltb, lt-ltb}
 use Rattle.signed.specs.Bias.{lift}
 use Rattle.signed.proofs.Tests.{both, and-parts, to-false, left-out}
-use Rattle.calendar.specs.Plain.{Plain, monthDays, lastDay, nextYear, date, times, dayAfter, hasDay}
+use Rattle.calendar.specs.Plain.{Plain, ofLeap, monthDays, lastDay, nextYear, date, times, dayAfter, hasDay}
 use Rattle.calendar.specs.Cutover.{julian, gregorian, firstCutover, lastCutover, cutoverAfter, lastKeptAfter, listIf, datesTo, droppedDates, everyDate, sameMonth, oneMonth, noFirst, allowedAfter, isListed, mostBack}
 use Rattle.calendar.specs.Calendar.{daysUsed, standardRow}
 use Rattle.calendar.specs.Closed.{kindAt, yearStart, monthStart, julianCount, fromMarch, yearDay, placeAt, placeOf, count, label, dayPlace, countedRow, cutoverDay, lag, mixed}
@@ -22,7 +22,7 @@ use Rattle.calendar.specs.declared.place.Place.{Place}
 use Rattle.calendar.specs.declared.rule.Rule.{Rule}
 use Rattle.calendar.proofs.YearZero.{later}
 use Rattle.calendar.proofs.Years.{kind-low}
-use Rattle.calendar.proofs.Tables.{month-days}
+use Rattle.calendar.proofs.Tables.{all, each-month, month-days, month-room}
 use Rattle.calendar.proofs.Places.{at, at-step, at-proper, at-count, at-is, stepPlace, place-eq, place-at, year-lt, year-ge, Proper}
 use Rattle.calendar.proofs.Labels.{year-high}
 use Rattle.calendar.proofs.Plain.{none-before-next}
@@ -88,6 +88,37 @@ written-place k =
 pub written-is : (k : ℕ) → cutoverAfter k ≡ dayDate julian (writtenDay k)
 written-is k = cutover-is k ∙ (sym (placed-date Rule.Gregorian false (4230526 + k)) ∙ (ap (label false) (written-place k) ∙ placed-date Rule.Julian false (writtenDay k)))
 
+-- ---- one place by the two rules
+
+-- a leap year of the Gregorian rule is one of the Julian
+no-shorter : ℕ → Bool
+no-shorter m = leb (monthStart 0 m) (monthStart 1 m)
+
+leap-later : (m : ℕ) → m < 12 → monthStart 0 m ≤ monthStart 1 m
+unfolding all no-shorter monthStart monthDays
+leap-later m h = leb-true (monthStart 0 m) (monthStart 1 m) (each-month (λ k. no-shorter) refl refl refl 0 m (omega arith) h)
+
+julian-later : (y m : ℕ) → m < 12 → monthStart (kindAt Rule.Gregorian y) m ≤ monthStart (kindAt Rule.Julian y) m
+unfolding kindAt
+julian-later y m h = go (eqb (y % 4) 0) (eqb (y % 100) 0) (eqb (y % 400) 0) refl refl
+  where
+    go : (a b c : Bool) → eqb (y % 4) 0 ≡ a → eqb (y % 400) 0 ≡ c → monthStart (ofLeap ((a && not b) || c)) m ≤ monthStart (ofLeap a) m
+    go true true true e f = omega arith
+    go true true false e f = leap-later m h
+    go true false c e f = omega arith
+    go false b true e f = absurd (omega (arith, eqb-false (y % 4) 0 e, eqb-true (y % 400) 0 f))
+    go false b false e f = omega arith
+
+-- from 1582 on the Gregorian rule lags by more than 77 days; before it counts nothing past 1582-10-15
+gregorian-behind : (k : ℕ) (p : Place) → Proper Rule.Julian p → count Rule.Julian p < 4230603 + k → count Rule.Gregorian p < 4230526 + k
+unfolding count yearStart
+gregorian-behind k p h g =
+    let day = month-days (kindAt Rule.Julian (p .y)) (p .m) (kind-low Rule.Julian (p .y)) (h .month) in
+    elim (decLe 11582 (p .y)) [
+      | yes a ↦ omega (arith, g, a, julian-later (p .y) (p .m) (h .month))
+      | no a ↦ omega (arith, a, h .day, day, month-room (kindAt Rule.Gregorian (p .y)) (p .m) (kind-low Rule.Gregorian (p .y)) (omega (arith, h .month)), h .month)
+    ]
+
 -- ---- the row of a cutover
 
 -- a date after year 0, as a place
@@ -121,19 +152,19 @@ module _ (k : ℕ) where
   unfolding yearStart
   first-from = year-ge Rule.Gregorian (4230526 + k) 11582 (omega arith)
 
-  pub kept-at : lastPlace (standardRow k) ≡ keptPlace
+  kept-at : lastPlace (standardRow k) ≡ keptPlace
   kept-at = ap (λ (x : Date). dayPlace (lift (x .year) 10000) (x .month) (x .day)) kept-label ∙ date-place keptPlace (omega (arith, kept-from))
 
   pub from-at : countedRow (standardRow k) .from ≡ firstPlace
   from-at = ap (λ (x : Date). dayPlace (lift (x .year) 10000) (x .month) (x .day)) first-label ∙ date-place firstPlace (omega (arith, first-from))
 
-  pub until-at : countedRow (standardRow k) .until ≡ placeAt (keptPlace .y) (keptPlace .m) (keptPlace .i + 1)
+  until-at : countedRow (standardRow k) .until ≡ placeAt (keptPlace .y) (keptPlace .m) (keptPlace .i + 1)
   until-at = place-eq (ap (λ (p : Place). p .y) kept-at) (ap (λ (p : Place). p .m) kept-at) (ap (λ (x : Date). x .day) kept-label)
 
-  pub until-from : 11582 ≤ countedRow (standardRow k) .until .y
+  until-from : 11582 ≤ countedRow (standardRow k) .until .y
   until-from = rw (ap (λ (p : Place). p .y) until-at) kept-from
 
-  pub from-from : 11582 ≤ countedRow (standardRow k) .from .y
+  from-from : 11582 ≤ countedRow (standardRow k) .from .y
   from-from = rw (ap (λ (p : Place). p .y) from-at) first-from
 
   until-count : count Rule.Julian (countedRow (standardRow k) .until) ≡ 4230603 + k
@@ -165,7 +196,7 @@ module _ (k : ℕ) where
 
   -- up to 1923-12-31 the cutover lies before 1970
   module _ (h : k ≤ 124624) where
-    pub from-to : countedRow (standardRow k) .from .y ≤ 11923
+    from-to : countedRow (standardRow k) .from .y ≤ 11923
     unfolding yearStart
     from-to = rw (ap (λ (p : Place). p .y) from-at) (omega (arith, year-lt Rule.Gregorian (4230526 + k) 11924 (omega arith)))
 
@@ -183,6 +214,7 @@ module _ (k : ℕ) where
           early-year = omega (arith, until-from);
           late-year = omega (arith, from-from);
           before-1970 = omega (arith, from-to);
+          ahead = λ e p g l. omega (arith, cutover-day, gregorian-behind k p g (omega (arith, l, lag-77, cutover-day)));
         }
 
 -- ---- the dropped dates, as a list of days

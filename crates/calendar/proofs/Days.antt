@@ -107,7 +107,7 @@ abbrev pub lastPlace : CalendarRow → Place
 lastPlace r = dayPlace (lift (r .last .year) 10000) (r .last .month) (r .last .day)
 
 -- what the cutover of a row must satisfy: its two days exist and rise; the late rule lags, though by less than a year; parts that
--- meet at one place have one rule; and both days lie in the years -9998 to 1969
+-- meet at one place have one rule; both days lie in the years -9998 to 1969; and what is early by the early rule's count is so by the late one's
 pub record Cutover (r : CalendarRow) : Type 0 where
   pub last-at : label (r .zero) (lastPlace r) ≡ r .last
   pub last-proper : Proper (r .early) (lastPlace r)
@@ -120,6 +120,7 @@ pub record Cutover (r : CalendarRow) : Type 0 where
   pub early-year : 2 ≤ countedRow r .until .y
   pub late-year : 2 ≤ countedRow r .from .y
   pub before-1970 : countedRow r .from .y < 11970
+  pub ahead : mixed (countedRow r) ≡ true → (p : Place) → Proper (r .early) p → count (r .early) p < cutoverDay (countedRow r) + lag (countedRow r) → count (r .late) p < cutoverDay (countedRow r)
 
 -- the date of the n-th day, from place 0 0 0 of the early rule
 unfoldable pub rowDate : CalendarRow → ℕ → Date
@@ -233,6 +234,9 @@ module _ (r : CalendarRow) (h : Cutover r) where
   late-dates : (n : ℕ) → dateBy r (subℕ n (rowEpoch (countedRow r))) ≡ rowDate r (n + l)
   unfolding rowEpoch
   late-dates n = ap (dateBy r) (same-diff n (yearStart (r .late) 11970) (n + l) e (omega arith)) ∙ row-dates (n + l)
+
+  pub dated-exists : (n : ℕ) → existsBy r (dateBy r (subℕ n (rowEpoch (countedRow r)))) ≡ true
+  dated-exists n = ap (existsBy r) (late-dates n) ∙ row-exists (n + l)
 
   pub dated-early : (n : ℕ) → n < lateFrom (countedRow r) → dateBy r (subℕ n (rowEpoch (countedRow r))) ≡ dayDate (earlyPart r) (n + l)
   dated-early n = go (mixed (countedRow r))

@@ -1,10 +1,11 @@
 -- A date that exists, part by part, and the years of the calendars.
 use mathlib.Core.Path.{_≡_, refl, sym, ap, _∙_}
 use mathlib.Core.Bool.{Bool, true, false, _&&_, and-false}
-use Prim.Native.Nat.{_≤_}
+use Prim.Native.Nat.{ℕ, _≤_}
 use native.Mathlib.Omega.{arith}
 use lib.IntN.{ℤ, pos}
-use borrow.Author.Tests.{le-leb}
+use lib.Dec.{leb}
+use borrow.Author.Tests.{le-leb, leb-true}
 use Rattle.signed.proofs.Tests.{to-false, both, and-parts}
 use Rattle.calendar.specs.Plain.{Plain, lacksYear, hasDay}
 use Rattle.calendar.specs.Calendar.{hasYearZero, yearAfter, yearBefore, existsBy, exists, droppedBy, dropped, rowOf, earlyPart, latePart}
@@ -71,6 +72,13 @@ exists-possible c x h =
     both (isMonth (x .month)) (isMonthDay (x .day))
     (both _ _ (le-leb 1 (x .month) (v .month-low)) (le-leb (x .month) _ (omega (arith, v .month-high))))
     (both _ _ (le-leb 1 (x .day) (v .day-low)) (le-leb (x .day) _ (omega (arith, v .day-high))))
+
+pub possible-parts : (m d : ℕ) → isPossible m d ≡ true → (1 ≤ m) × ((m ≤ 12) × ((1 ≤ d) × (d ≤ 31)))
+possible-parts m d h =
+    let w = and-parts (isMonth m) (isMonthDay d) h in
+    let a = and-parts (leb 1 m) (leb m 12) (w .0) in
+    let b = and-parts (leb 1 d) (leb d 31) (w .1) in
+    (leb-true 1 m (a .0), (leb-true m 12 (a .1), (leb-true 1 d (b .0), leb-true d 31 (b .1))))
 
 -- a date of which some part is wrong does not exist
 pub not-there : (c : Calendar) (x : Date) → (Valid c x → ⊥) → exists c x ≡ false

@@ -69,6 +69,10 @@ pub name-lt : (z : Bool) (a b : ℕ) → ltZ (yearAt z a) (yearAt z b) ≡ ltb a
 name-lt true a b = sub-lt a b 10000
 name-lt false a b = names-lt a b
 
+pub first-low : (z : Bool) → 1 ≤ firstYear z
+first-low true = omega arith
+first-low false = omega arith
+
 -- the years -9999 to 9999
 pub year-in : (z : Bool) (y : ℕ) → inYears (yearAt z y) ≡ (leb (firstYear z) y && leb y 19999)
 year-in true y = λ i. sub-le 1 y 10000 i && sub-le y 19999 10000 i

@@ -15,6 +15,7 @@ pub mod Existing
 pub mod Numbering
 pub mod Answering
 pub mod Counting
+pub mod Found
 pub mod Counted
 pub mod Months
 pub mod Possible

@@ -1,14 +1,13 @@
 -- The rows of the six calendars meet what a cutover must satisfy; and a plain row is its plain calendar.
 use mathlib.Core.Path.{_≡_, refl, sym, ap, _∙_}
-use Prim.Native.Nat.{ℕ, zero, suc, _+_, _≤_}
+use Prim.Native.Nat.{ℕ, _+_}
 use mathlib.Core.Bool.{Bool, true, false, _&&_, cond, false≢true}
 use native.Mathlib.Omega.{arith}
 use lib.IntN.{pos}
 use borrow.Author.Tests.{lt-ltb}
-use Rattle.calendar.specs.Plain.{plain, times, lastDay, date, dayAfter, dayBefore, hasDay}
+use Rattle.calendar.specs.Plain.{plain, lastDay, date, dayAfter, dayBefore, hasDay}
 use Rattle.calendar.specs.Calendar.{plainRow, daysUsed, rowOf, nextBy, prevBy, existsBy}
-use Rattle.calendar.specs.Closed.{kindAt, yearAt, counts, mixed, lastNear, cutoverDay, lateFrom, lag}
-use Rattle.calendar.specs.Cutover.{cutoverAfter}
+use Rattle.calendar.specs.Closed.{kindAt, yearAt, counts, mixed, cutoverDay, lateFrom, lag}
 use Rattle.calendar.specs.Order.{earlier, sameDate}
 use Rattle.calendar.specs.declared.Calendar.{Calendar}
 use Rattle.calendar.specs.declared.Calendar.the-variants.{Standard, ProlepticGregorian, Julian, NoLeap, AllLeap, Day360}
@@ -20,7 +19,7 @@ use Rattle.calendar.proofs.Ordered.{date-eq, by-day, same-of, not-after
 use Rattle.calendar.proofs.Plain.{long}
 use Rattle.calendar.proofs.Joint.{Junction}
 use Rattle.calendar.proofs.Days.{Cutover, junction, no-lag}
-use Rattle.calendar.proofs.Cutovers.{used, standard-cutover, lag-77, standard-mixed, cutover-day, until-from, from-from, from-to}
+use Rattle.calendar.proofs.Cutovers.{used, standard-cutover, lag-77, standard-mixed, cutover-day}
 
 name-1582 : (z : Bool) → yearAt z 11582 ≡ pos 1582
 name-1582 true = refl
@@ -42,6 +41,7 @@ plain-cutover r z =
       early-year = omega arith;
       late-year = omega arith;
       before-1970 = omega arith;
+      ahead = λ h. absurd (false≢true h);
     }
 
 pub cutover : (c : Calendar) → Cutover (rowOf c)
@@ -67,25 +67,6 @@ mixed-lag Day360 h = absurd (false≢true h)
 
 pub plain-lag : (c : Calendar) → mixed (counts c) ≡ false → lag (counts c) ≡ 0
 plain-lag c h = no-lag (rowOf c) (cutover c) h
-
--- in the years from 1582 on in which it may be
-pub record MixedYears (c : Calendar) : Type 0 where
-  pub until : 11582 ≤ counts c .until .y
-  pub from : 11582 ≤ counts c .from .y
-  pub to : counts c .from .y ≤ lastNear c
-
-first-year : counts (Standard zero) .from .y ≡ 11582
-unfolding cutoverAfter times
-first-year = refl
-
-pub mixed-years : (c : Calendar) → mixed (counts c) ≡ true → MixedYears c
-mixed-years (Standard zero) h = record { until = until-from zero; from = from-from zero; to = omega (arith, first-year) }
-mixed-years (Standard (suc k)) h = record { until = until-from (daysUsed (suc k)); from = from-from (daysUsed (suc k)); to = from-to (daysUsed (suc k)) (used (suc k) .most) }
-mixed-years ProlepticGregorian h = absurd (false≢true h)
-mixed-years Julian h = absurd (false≢true h)
-mixed-years NoLeap h = absurd (false≢true h)
-mixed-years AllLeap h = absurd (false≢true h)
-mixed-years Day360 h = absurd (false≢true h)
 
 pub late-from : (k : ℕ) → lateFrom (counts (Standard k)) ≡ 4230526 + daysUsed k
 late-from k = rw (standard-mixed (daysUsed k)) (cutover-day (daysUsed k))

@@ -5,7 +5,7 @@ use Prim.Native.Nat.{ℕ, zero, suc, _+_, _-_, _*_, _/_, _%_, _<_, _^_}
 use lib.Dec.{leb, ltb, eqb}
 use lib.IntN.{ℤ, pos, subℕ}
 use mathlib.Core.Path.{_≡_}
-use Rattle.signed.specs.Bias.{lift}
+use Rattle.signed.specs.Bias.{lift, unbiased}
 use Rattle.calendar.specs.Plain.{monthDays, ofLeap, date}
 use Rattle.calendar.specs.Calendar.{CalendarRow, rowOf, hasYearZero, exists, dateOf, inYears}
 use Rattle.calendar.specs.declared.Calendar.{Calendar}
@@ -131,6 +131,10 @@ IsDaySince x DaySince.Nothing = (n : ℕ) → n < 2 ^ 63 → dateOf ProlepticGre
 abbrev pub dayPlace : ℕ → ℕ → ℕ → Place
 dayPlace y m d = placeAt y (m - 1) (d - 1)
 
+-- a rule of years has the date
+unfoldable pub hasDayAt : Rule → ℕ → ℕ → ℕ → Bool
+hasDayAt r y m d = (leb 1 m && leb m 12) && (leb 1 d && leb d (monthDays (kindAt r y) (m - 1)))
+
 -- the date comes before a place, as it is written
 unfoldable pub beforePlace : ℕ → ℕ → ℕ → Place → Bool
 beforePlace y m d p = ltb y (p .y) || (eqb y (p .y) && (ltb m (p .m + 1) || (eqb m (p .m + 1) && ltb d (p .i + 1))))
@@ -152,10 +156,6 @@ countedRow r = record { zero = r .zero; early = r .early; late = r .late; until 
 abbrev pub partsOf : CountedRow → Parts
 partsOf k = record { zero = k .zero; early = k .early; late = k .late }
 
--- 1582-10-15, where the two parts of a plain calendar meet
-abbrev pub meetingPlace : Place
-meetingPlace = placeAt 11582 9 14
-
 -- the two parts of a calendar that is not mixed meet at one place
 abbrev pub mixed : CountedRow → Bool
 mixed k = not (eqb (k .until .y) (k .from .y) && (eqb (k .until .m) (k .from .m) && eqb (k .until .i) (k .from .i)))
@@ -176,13 +176,9 @@ lateFrom k = cond (mixed k) (cutoverDay k) 0
 abbrev pub firstYear : Bool → ℕ
 firstYear z = cond z 1 2
 
--- a date belongs to the early part of a mixed calendar
+-- a date belongs to the early part, if it exists at all, where the late rule counts it before the late one
 abbrev pub isEarly : CountedRow → ℕ → ℕ → ℕ → Bool
-isEarly k y m d = mixed k && beforePlace y m d (k .from)
-
--- as it is written, it lies after the last day of that part and before the first of the late one
-abbrev pub inGap : CountedRow → ℕ → ℕ → ℕ → Bool
-inGap k y m d = isEarly k y m d && not (beforePlace y m d (k .until))
+isEarly k y m d = ltb (count (k .late) (dayPlace y m d)) (lateFrom k)
 
 -- the rule of the part that a date belongs to, and the days by which the late rule lags behind it
 abbrev pub ruleAt : CountedRow → ℕ → ℕ → ℕ → Rule
@@ -224,19 +220,16 @@ firstDay c = rowStart (counts c)
 abbrev pub endDay : Calendar → ℕ
 endDay c = rowEnd (counts c)
 
--- the last year in which a calendar may have its cutover: 1582 where it has that of 1582 or none, and else 1923
-abbrev pub lastNear : Calendar → ℕ
-lastNear (Calendar.Standard zero) = 11582
-lastNear (Calendar.Standard (suc k)) = 11923
-lastNear Calendar.ProlepticGregorian = 11582
-lastNear Calendar.Julian = 11582
-lastNear Calendar.NoLeap = 11582
-lastNear Calendar.AllLeap = 11582
-lastNear Calendar.Day360 = 11582
+-- the day number of a place of the early part plus 2^63, or 0 where the early rule does not have it, or has it after the last day kept
+unfoldable pub earlyDay : CountedRow → Place → ℕ
+earlyDay k p =
+    let n = count (k .early) p - lag k in
+    cond (ltb (p .i) (monthDays (kindAt (k .early) (p .y)) (p .m)) && ltb n (lateFrom k)) (n + (9223372036854775808 - rowEpoch k)) 0
 
--- a mixed calendar may have its cutover in year y
-abbrev pub nearCutover : Calendar → ℕ → Bool
-nearCutover c y = mixed (counts c) && (leb 11582 y && leb y (lastNear c))
+-- n is the day number of a date plus 2^63, or 0 where the date does not exist
+pub record DayOrNone (c : Calendar) (x : Date) (n : ℕ) : Type 0 where
+  pub there : exists c x ≡ ltb 0 n
+  pub dated : 0 < n → dateOf c (unbiased n) ≡ x
 
 -- the number w stands for the place of day z
 pub record PlaceOfDay (c : Calendar) (z : ℤ) (w : ℕ) : Type 0 where

@@ -33,9 +33,6 @@ pub fn is_allowed(k: u32) -> bool
 pub fn days_used(k: u32) -> u64
     ensures { λ n. ⌜ n ≡ daysUsed k ⌝ }
 {
-    if k == 0 {
-        return 0;
-    }
     if is_allowed(k) {
         return k as u64;
     }

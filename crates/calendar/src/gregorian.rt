@@ -16,7 +16,7 @@ pub fn exists_in_any_year(x: Date) -> bool
     ensures { λ r. ⌜ r ≡ exists ProlepticGregorian x ⌝ }
 {
     let y = (signed::biased(x.year) % 400 + 192) % 400;
-    ordinal::exists_in_year(Calendar::ProlepticGregorian, y, x.month, x.day)
+    ordinal::has_day(Rule::Gregorian, y, x.month, x.day)
 }
 
 // The day number of a date, counted from 1970-01-01, or that it has none from 0 to 2^63 - 1.
@@ -37,7 +37,7 @@ pub fn day_since_1970(x: Date) -> DaySince
         return DaySince::Nothing;
     }
     let y = k - (0x8000_0000_0000_0000 - 10000);
-    if !ordinal::exists_in_year(Calendar::ProlepticGregorian, y, x.month, x.day) {
+    if !ordinal::has_day(Rule::Gregorian, y, x.month, x.day) {
         return DaySince::Nothing;
     }
     let p = Place {

@@ -194,10 +194,11 @@ pub fn found_day(c: Calendar, x: Date) -> FoundDay
     match year_count(has_year_zero(c), k) {
         YearCount::Missing => return FoundDay::Nothing,
         YearCount::Is(y) => {
-            if ordinal::exists_in_year(c, y, x.month, x.day) {
-                return FoundDay::Is(ordinal::day_in_year(c, y, x.month, x.day));
+            let n = ordinal::biased_day(c, y, x.month, x.day);
+            if n == 0 {
+                return FoundDay::Nothing;
             }
-            return FoundDay::Nothing;
+            return FoundDay::Is(signed::unbiased(n));
         }
     }
 }

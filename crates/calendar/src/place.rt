@@ -1,7 +1,9 @@
 // A day within a rule as year, month and day, each counted from 0, the year from -10000.
 ghost use mathlib.Core.Path.{_≡_};
 ghost use Prim.Native.Nat.{_<_, _≤_, _^_};
-ghost use Rattle.calendar.specs.Closed.{yearsBack, fromMarch, placeOf, count};
+ghost use lib.Dec.{ltb};
+ghost use Rattle.calendar.specs.Plain.{monthDays};
+ghost use Rattle.calendar.specs.Closed.{kindAt, yearsBack, fromMarch, placeOf, count};
 use crate::month;
 use crate::rule;
 use crate::rule::Rule;
@@ -54,6 +56,14 @@ pub fn place_of(r: Rule, n: u64) -> Place
         }
         _ => return from_march(rule::year_day(r, n + 306)),
     }
+}
+
+// Whether the month of a place has its day.
+pub fn is_proper(r: Rule, p: Place) -> bool
+    requires { ⌜ p .m < 12 ⌝ }
+    ensures { λ b. ⌜ b ≡ ltb (p .i) (monthDays (kindAt r (p .y)) (p .m)) ⌝ }
+{
+    p.i < month::month_length(rule::kind_of_year(r, p.y), p.m)
 }
 
 // The days before a place.

@@ -63,15 +63,14 @@ fn calendar_of(code: u32) -> CodedCalendar
     return CodedCalendar::Unknown;
 }
 
-// The same with a cutover; UnknownCalendar, then CutoverNotAllowed. `standard` is told by its code, so that no other calendar waits for it.
+// The same with a cutover; UnknownCalendar, then CutoverNotAllowed. The cutover of 1582 is told first: with it the code alone names the calendar.
 pub fn calendar_given(code: u32, x: Date) -> CalendarAnswer
     ensures { λ r. ⌜ r ≡ calendarGiven code x ⌝ }
 {
-    if code == 0 {
-        if cutover::is_first(x) {
-            return CalendarAnswer::Is(Calendar::Standard(0));
+    if !cutover::is_first(x) {
+        if code == 0 {
+            return cutover::standard_of(cutover::days_of(x.year, x.month, x.day));
         }
-        return cutover::standard_of(cutover::days_of(x));
     }
     match calendar_of(code) {
         CodedCalendar::Unknown => return CalendarAnswer::Refused(Refusal::UnknownCalendar),

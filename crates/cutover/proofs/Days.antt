@@ -5,13 +5,17 @@ use Prim.Native.Nat.{ℕ, zero, suc, _+_, _-_, _<_, _≤_}
 use native.Mathlib.Omega.{arith}
 use native.Mathlib.Decide.{decLe}
 use lib.IntN.{ℤ}
+use mir.Syntax.{w64}
+use mir.Val.{SFits}
+use mir.ValLaws.{toZ-ofZ}
 use borrow.Author.Tests.{lt-ltb, le-ltb}
 use Rattle.refusal.specs.declared.Refusal.the-variants.{CutoverNotAllowed}
 use Rattle.signed.specs.Bias.{unbiased}
 use Rattle.signed.proofs.Tests.{both, and-parts, to-false}
 use Rattle.signed.proofs.Differences.{same-diff, sub-inj}
+use Rattle.signed.proofs.Machine.{read}
 use Rattle.calendar.specs.Plain.{times, dayAfter, hasDay}
-use Rattle.calendar.specs.Calendar.{dateOf, exists, inYears}
+use Rattle.calendar.specs.Calendar.{date, dateOf, exists, inYears}
 use Rattle.calendar.specs.Closed.{yearStart, rowEpoch}
 use Rattle.calendar.specs.declared.Calendar.the-variants.{Standard, ProlepticGregorian}
 use Rattle.calendar.specs.Cutover.{gregorian, firstCutover, cutoverAfter, allowedAfter, daysTo, cutoverDays, allowed}
@@ -155,3 +159,7 @@ with-days x = go (allowed x) refl
     go : (t : Bool) → allowed x ≡ t → standardOf (cond t (cutoverDays x) 124625) ≡ cond t (CalendarAnswer.Is (Standard (cutoverDays x))) (CalendarAnswer.Refused CutoverNotAllowed)
     go true h = rw (le-ltb 124624 (cutoverDays x) (is-cutover x h .most))
     go false h = refl
+
+-- with the fields of the date handed over one by one
+pub with-fields : (x : Date) → SFits w64 (x .year) → standardOf (daysOrMore (date (read (x .year)) (x .month) (x .day))) ≡ standardWith x
+with-fields x fits = ap (λ (y : ℤ). standardOf (daysOrMore (date y (x .month) (x .day)))) (toZ-ofZ w64 (x .year) fits) ∙ with-days x

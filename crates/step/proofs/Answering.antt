@@ -15,7 +15,7 @@ use Rattle.calendar.specs.Closed.{yearAt}
 use Rattle.calendar.specs.declared.Calendar.{Calendar}
 use Rattle.calendar.specs.declared.Date.{Date}
 use Rattle.calendar.proofs.Existing.{date-eq, valid-of}
-use Rattle.calendar.proofs.Labels.{firstYear, year-in}
+use Rattle.calendar.proofs.Labels.{firstYear, first-low, year-in}
 use Rattle.step.specs.Answers.{stepsBetween}
 use Rattle.step.specs.Closed.{monthAt, monthCount, monthsOf, YearOf}
 use Rattle.step.specs.Steps.{YearMonth, yearMonth, yearMonthOf, monthReached, downTo, stepsDown, dateDown, dateAfter, daysBack}
@@ -57,14 +57,14 @@ month-in z j =
 -- ---- a date x of year y
 
 module _ (c : Calendar) (x : Date) (y : ℕ) (g : YearOf c x y) where
-  pub year-small : y < 20000
-  year-small =
+  pub year-inside : (1 ≤ y) × (y < 20000)
+  year-inside =
       let z = hasYearZero c in
       let w = and-parts (leb (firstYear z) y) (leb y 19999) (sym (year-in z y) ∙ (ap inYears (g .is) ∙ g .date .inside)) in
-      omega (arith, leb-true y 19999 (w .1))
+      (omega (arith, first-low z, leb-true (firstYear z) y (w .0)), omega (arith, leb-true y 19999 (w .1)))
 
   pub month-inside : (y < 20000) × ((1 ≤ x .month) × (x .month ≤ 12))
-  month-inside = let v = valid-of c x (g .date .there) in (year-small, (v .month-low, v .month-high))
+  month-inside = let v = valid-of c x (g .date .there) in (year-inside .1, (v .month-low, v .month-high))
 
   pub count-small : monthCount y (x .month) < 240000
   count-small = omega (arith, month-inside)
@@ -114,7 +114,7 @@ module _ (c : Calendar) (x : Date) (y : ℕ) (g : YearOf c x y) where
 
     -- where it is known to lie in the years
     pub record Inside : Type 0 where
-      pub from : b * monthsOf part ≤ monthCount y (x .month) + n * monthsOf part
+      pub from : b * monthsOf part + 12 ≤ monthCount y (x .month) + n * monthsOf part
       pub to : monthCount y (x .month) + n * monthsOf part - b * monthsOf part < 240000
       pub few : (b < n + 240000) × (n < b + 240000)
 
@@ -124,8 +124,10 @@ module _ (c : Calendar) (x : Date) (y : ℕ) (g : YearOf c x y) where
         let j = i + n * monthsOf part - b * monthsOf part in
         let l : b * monthsOf part ≤ i + n * monthsOf part = elim (decLt (i + n * monthsOf part) (b * monthsOf part)) [ yes e ↦ absurd (true≢false (sym h ∙ year-below e)) | no e ↦ omega arith ] in
         let e : j + b * monthsOf part ≡ i + n * monthsOf part = omega arith in
-        let t = ltb-true j 240000 (and-parts (leb (12 * firstYear (hasYearZero c)) j) (ltb j 240000) (sym (year-at j e) ∙ h) .1) in
-        record { from = l; to = t; few = steps-few part n b i j count-small t e }
+        let z = hasYearZero c in
+        let w = and-parts (leb (12 * firstYear z) j) (ltb j 240000) (sym (year-at j e) ∙ h) in
+        let t = ltb-true j 240000 (w .1) in
+        record { from = omega (arith, first-low z, leb-true (12 * firstYear z) j (w .0), e); to = t; few = steps-few part n b i j count-small t e }
 
 -- ---- the number of steps from x to d
 

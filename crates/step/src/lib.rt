@@ -4,13 +4,14 @@
 ghost use mathlib.Core.Path.{_≡_};
 ghost use mathlib.Core.Bool.{true, cond};
 ghost use Prim.Native.Nat.{_+_, _-_, _*_, _<_, _≤_};
+ghost use lib.Dec.{eqb};
 ghost use lib.IntN.{subℕ};
 ghost use Rattle.calendar.specs.Calendar.{hasYearZero, exists, dateOf, inYears};
 ghost use Rattle.calendar.specs.Closed.{yearAt};
 ghost use Rattle.calendar.specs.Answers.{dayAnswer};
 ghost use Rattle.step.specs.Answers.{steppedBack, stepsBetween};
 ghost use Rattle.step.specs.Closed.{monthAt, monthCount, monthsOf, HasNumber, YearOf};
-ghost use Rattle.step.specs.Steps.{downTo, stepsDown, dateDown, dateAfter, daysBack};
+ghost use Rattle.step.specs.Steps.{yearMonth, downTo, stepsDown, dateDown, dateAfter, daysBack};
 use calendar::Calendar;
 use calendar::Date;
 use calendar::YearCount;
@@ -86,39 +87,43 @@ fn first_year(c: Calendar) -> u64
 
 // ---- days
 
-// Day `day` of a month of year y, or the nearest day below it that exists.
-fn day_down(c: Calendar, y: u64, month: u32, day: u32) -> u32
-    ensures { λ r. ⌜ r ≡ downTo c (yearAt (hasYearZero c) y) month day ⌝ }
-{
-    let mut d = day;
-    while 0 < d {
-        if calendar::ordinal::exists_in_year(c, y, month, d) {
-            return d;
-        }
-        d -= 1;
-    }
-    return 0;
-}
-
 // A day number, and the days that it was stepped back.
 pub struct DayInMonth {
     pub number: i64,
     pub days_back: u32,
 }
 
-// Day `day` of month i, or the nearest day below it that exists.
+// Day `day` of a month of year y, or the nearest day below it that exists.
+fn day_down(c: Calendar, y: u64, month: u32, day: u32) -> DayInMonth
+    requires { ⌜ (1 ≤ y) × (y < 20000) ⌝ }
+    ensures dated { λ r. ⌜ (exists c (dateDown c (yearMonth (yearAt (hasYearZero c) y) month) day) ≡ true → dateOf c (r .number) ≡ dateDown c (yearMonth (yearAt (hasYearZero c) y) month) day) ⌝ }
+    ensures back { λ r. ⌜ r .«days_back» ≡ stepsDown c (yearAt (hasYearZero c) y) month day ⌝ }
+{
+    let mut d = day;
+    while 0 < d {
+        let n = calendar::ordinal::biased_day(c, y, month, d);
+        if n != 0 {
+            return DayInMonth {
+                number: signed::unbiased(n),
+                days_back: day - d,
+            };
+        }
+        d -= 1;
+    }
+    // no month comes here
+    return DayInMonth {
+        number: 0,
+        days_back: day,
+    };
+}
+
+// The same of month i.
 fn day_in(c: Calendar, i: u64, day: u32) -> DayInMonth
-    requires { ⌜ (i < 240000) × (exists c (dateDown c (monthAt c i) day) ≡ true) ⌝ }
+    requires { ⌜ (12 ≤ i) × ((i < 240000) × (exists c (dateDown c (monthAt c i) day) ≡ true)) ⌝ }
     ensures dated { λ r. ⌜ dateOf c (r .number) ≡ dateDown c (monthAt c i) day ⌝ }
     ensures back { λ r. ⌜ r .«days_back» ≡ stepsDown c (monthAt c i .year) (monthAt c i .month) day ⌝ }
 {
-    let y = i / 12;
-    let month = (i % 12 + 1) as u32;
-    let given = day_down(c, y, month, day);
-    DayInMonth {
-        number: calendar::ordinal::day_in_year(c, y, month, given),
-        days_back: day - given,
-    }
+    day_down(c, i / 12, (i % 12 + 1) as u32, day)
 }
 
 // ---- steps from a date x of year y
@@ -165,12 +170,23 @@ fn difference(b: u64, a: u64) -> i64
     signed::unbiased(b + (0x8000_0000_0000_0000 - a))
 }
 
+// Whether day `day` of the month of d, of year w, is d itself or is stepped back to it.
+fn leads_to(c: Calendar, d: Date, w: u64, day: u32) -> bool
+    requires { ⌜ YearOf c d w ⌝ }
+    ensures { λ r. ⌜ r ≡ eqb (downTo c (d .year) (d .month) day) (d .day) ⌝ }
+{
+    if day == d.day {
+        return true;
+    }
+    return day - day_down(c, w, d.month, day).days_back == d.day;
+}
+
 // The n for which d, of year w, lies n steps after x, or that there is none.
 pub fn steps_between(c: Calendar, part: Part, x: Date, y: u64, d: Date, w: u64) -> StepAnswer
     requires { ⌜ YearOf c x y × YearOf c d w ⌝ }
     ensures { λ r. ⌜ r ≡ stepsBetween part c x d ⌝ }
 {
-    if day_down(c, w, d.month, x.day) != d.day {
+    if !leads_to(c, d, w, x.day) {
         return StepAnswer::Nothing;
     }
     match part {

@@ -1,16 +1,19 @@
 -- `calendar::found_day` meets its contract.
-use mathlib.Core.Path.{_≡_, sym, ap, _∙_}
+use mathlib.Core.Path.{_≡_, sym, ap, _∙_, subst}
 use mathlib.Core.Bool.{Bool, true, false}
-use Prim.Native.Nat.{ℕ, _<_}
+use Prim.Native.Nat.{ℕ, _≤_, _<_}
+use native.Mathlib.Omega.{arith}
+use lib.Dec.{ltb}
 use mir.Syntax.{w64}
 use mir.Val.{SFits}
 use mir.ValLaws.{toZ-ofZ}
-use borrow.Author.Tests.{not-true, not-false}
+use borrow.Author.Tests.{not-true, not-false, lt-ltb}
 use Rattle.signed.specs.Bias.{unbiased}
 use Rattle.signed.proofs.Tests.{both, left-out, right-out}
 use Rattle.signed.proofs.Machine.{crossed}
 use Rattle.calendar.specs.Calendar.{hasYearZero, inYears, exists, date, dateOf}
-use Rattle.calendar.specs.Closed.{yearAt}
+use Rattle.calendar.specs.Closed.{yearAt, DayOrNone}
+use Rattle.calendar.specs.declared.Date.{Date}
 use Rattle.calendar.specs.declared.YearCount.{YearCount}
 use Rattle.calendar.proofs.Existing.{not-there}
 use Rattle.calendar.proofs.Counted.{year-bounds, no-count, date-is, count-low}
@@ -61,7 +64,7 @@ module _ (n : tie.After-year-count) where
     written : date (yearAt (hasYearZero (s .args .c)) y) (s .args .x .month) (s .args .x .day) ≡ s .args .x
     written = date-is (s .args .c) (s .args .x) (k (e .before)) (year-is (e .before)) (inside e) (n .before .has-year-zero .result) (n .before .has-year-zero .ensures) (n .year-count .result) (n .year-count .ensures) y m
 
-    low : y < 2147483648
+    low : (1 ≤ y) × (y < 2147483648)
     low = count-low (s .args .c) (s .args .x) (k (e .before)) (year-is (e .before)) (inside e) (n .before .has-year-zero .result) (n .before .has-year-zero .ensures) (n .year-count .result) (n .year-count .ensures) y m
 
 returns-2 : tie.Need-returns-2
@@ -69,8 +72,11 @@ returns-2 c =
     let n = c .before .before in
     right-out (inYears (s n .args .x .year)) (exists (s n .args .c) (s n .args .x)) (missing n (c .enum-told .given .1))
 
+biased-day-requires : tie.Need-biased-day-requires
+biased-day-requires c κs = let y = c .before .y .given in low (c .before .before .before) (y .0 .0) (y .1)
+
 -- whether the date exists
-module _ (f : tie.After-exists-in-year) where
+module _ (f : tie.After-biased-day) where
   abbrev at : tie.After-y
   at = f .before .before
 
@@ -80,28 +86,25 @@ module _ (f : tie.After-exists-in-year) where
   found : date (yearAt (hasYearZero (s count .args .c)) (at .y .given .0 .0)) (s count .args .x .month) (s count .args .x .day) ≡ s count .args .x
   found = written count (at .y .given .0 .0) (at .y .given .1)
 
-  exists-is : {t : Bool} → f .exists-in-year .result ≡ t → exists (s count .args .c) (s count .args .x) ≡ t
-  exists-is h = ap (exists (s count .args .c)) (sym found) ∙ (sym (f .exists-in-year .ensures) ∙ h)
-
-day-in-year-requires : tie.Need-day-in-year-requires
-day-in-year-requires c κs =
-    let f = c .before in
-    (low (count f) (at f .y .given .0 .0) (at f .y .given .1), sym (f .exists-in-year .ensures) ∙ c .if2 .taken)
+  answer : DayOrNone (s count .args .c) (s count .args .x) (f .biased-day .result)
+  answer = subst (λ (d : Date). DayOrNone (s count .args .c) d (f .biased-day .result)) found (f .biased-day .ensures)
 
 returns-3 : tie.Need-returns-3
 returns-3 c =
-    let f = c .before .before in
+    let f = c .before in
     let a = s (count f) .args in
-    let r = c .day-in-year .result in (
-      both (inYears (a .x .year)) (exists (a .c) (a .x)) (inside (e (count f))) (exists-is f (c .before .if2 .taken)),
-      ap (dateOf (a .c)) (toZ-ofZ w64 r (record { sfits = c .day-in-year .ok })) ∙ (c .day-in-year .ensures ∙ found f),
-    )
+    right-out (inYears (a .x .year)) (exists (a .c) (a .x)) (answer f .there ∙ ap (ltb 0) (c .if2 .taken))
 
 returns-4 : tie.Need-returns-4
 returns-4 c =
-    let f = c .before in
+    let f = c .before .before in
     let a = s (count f) .args in
-    right-out (inYears (a .x .year)) (exists (a .c) (a .x)) (exists-is f (c .if2 .left))
+    let n = f .biased-day .result in
+    let r = c .unbiased .result in
+    let positive : 0 < n = omega (arith, c .before .if2 .left) in (
+      both (inYears (a .x .year)) (exists (a .c) (a .x)) (inside (e (count f))) (answer f .there ∙ lt-ltb 0 n positive),
+      ap (dateOf (a .c)) (toZ-ofZ w64 r (record { sfits = c .unbiased .ok }) ∙ c .unbiased .ensures) ∙ answer f .dated positive,
+    )
 
 pub found-day-spec : {M : Type 1} → statement M
 found-day-spec =
@@ -115,7 +118,7 @@ found-day-spec =
     (λ c. search needs)
     returns-2
     (λ c. search needs)
-    (λ c κs. search needs)
-    day-in-year-requires
+    biased-day-requires
     returns-3
+    (λ c κs. search needs)
     returns-4)

@@ -1,7 +1,7 @@
 -- `calendar::refusal_with` meets its contract.
 use mathlib.Core.Path.{_≡_, sym, ap, _∙_}
 use mathlib.Core.Bool.{Bool, true, false, _&&_}
-use Prim.Native.Nat.{ℕ}
+use Prim.Native.Nat.{ℕ, _≤_, _<_}
 use mir.Syntax.{w64}
 use mir.Val.{SFits}
 use borrow.Author.Tests.{not-true, not-false}
@@ -14,7 +14,7 @@ use Rattle.calendar.specs.Closed.{yearAt}
 use Rattle.calendar.specs.declared.YearCount.{YearCount}
 use Rattle.calendar.proofs.Existing.{valid-dropped}
 use Rattle.calendar.proofs.Answering.{refused-past, refused-impossible, refused-dropped, refused-missing}
-use Rattle.calendar.proofs.Counted.{year-bounds, no-count, date-is}
+use Rattle.calendar.proofs.Counted.{year-bounds, no-count, date-is, count-low}
 use borrow.Author.Needs.{needs}
 use Rattle.calendar.proofs.refusal_with.Statement.{statement}
 use Rattle.calendar.proofs.refusal_with.Tie as tie
@@ -93,6 +93,9 @@ module _ (n : tie.After-year-count) where
   written : (i : ℕ) → n .year-count .result ≡ YearCount.Is i → date (yearAt (hasYearZero (s at .args .c)) i) (s at .args .x .month) (s at .args .x .day) ≡ s at .args .x
   written i = date-is (s at .args .c) (s at .args .x) (k y) (year-is y) (inside (e at)) (n .before .has-year-zero .result) (n .before .has-year-zero .ensures) (n .year-count .result) (n .year-count .ensures) i
 
+  low : (i : ℕ) → n .year-count .result ≡ YearCount.Is i → (1 ≤ i) × (i < 2147483648)
+  low i = count-low (s at .args .c) (s at .args .x) (k y) (year-is y) (inside (e at)) (n .before .has-year-zero .result) (n .before .has-year-zero .ensures) (n .year-count .result) (n .year-count .ensures) i
+
 returns-4 : tie.Need-returns-4
 returns-4 c =
     let n = c .before .before in
@@ -100,7 +103,7 @@ returns-4 c =
     refused-missing (a .rest) (a .c) (a .x) (inside (e (at n))) (possible (at n)) (none-dropped n (c .enum-told .given .1))
 
 is-dropped-requires : tie.Need-is-dropped-requires
-is-dropped-requires c κs = day-possible (at (c .before .before .before))
+is-dropped-requires c κs = let y = c .before .y .given in low (c .before .before .before) (y .0 .0) (y .1)
 
 -- whether the date was dropped
 module _ (d : tie.After-is-dropped) where

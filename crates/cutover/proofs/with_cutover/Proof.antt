@@ -9,7 +9,7 @@ use Rattle.calendar.specs.declared.Date.{Date}
 use Rattle.cutover.specs.Calendars.{standardWith, withCutover}
 use Rattle.cutover.specs.Closed.{standardOf}
 use Rattle.cutover.specs.declared.CalendarAnswer.{CalendarAnswer}
-use Rattle.cutover.proofs.Days.{with-days, first-with}
+use Rattle.cutover.proofs.Days.{with-fields, first-with}
 use borrow.Author.Needs.{needs}
 use Rattle.cutover.proofs.with_cutover.Statement.{statement}
 use Rattle.cutover.proofs.with_cutover.Tie as tie
@@ -35,9 +35,9 @@ returns-2 : tie.Need-returns-2
 unfolding withCutover
 returns-2 c =
     let d = c .before in
-    let e = d .before .before .before in
+    let e = d .before .before .before .before in
     let x = e .before .before .args .x in
-    c .standard-of .ensures ∙ (ap standardOf (d .days-of .ensures) ∙ (with-days x ∙ ap (λ (k : Calendar). withCutover k x) (sym (e .enum-told .given .1))))
+    c .standard-of .ensures ∙ (ap standardOf (d .days-of .ensures) ∙ (with-fields x (search needs) ∙ ap (λ (k : Calendar). withCutover k x) (sym (e .enum-told .given .1))))
 
 pub with-cutover-spec : {M : Type 1} → statement M
 with-cutover-spec =

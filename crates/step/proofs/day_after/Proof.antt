@@ -71,7 +71,7 @@ sub-day-in c = omega (arith, reached c, raised (at c) .from)
 day-in-requires : tie.Need-day-in-requires
 day-in-requires c κs =
     let a = s c .args in
-    (omega (arith, reached c, raised (at c) .to), ap (exists (a .c)) (date-is c) ∙ dates-there (a .c) (a .part) (a .x) (s c .pre .0 .date .there) (a .n))
+    (omega (arith, reached c, raised (at c) .from), (omega (arith, reached c, raised (at c) .to), ap (exists (a .c)) (date-is c) ∙ dates-there (a .c) (a .part) (a .x) (s c .pre .0 .date .there) (a .n)))
 
 returns : tie.Need-returns
 returns c =

@@ -9,10 +9,11 @@ use mir.ValLaws.{toZ-ofZ}
 use Rattle.refusal.specs.declared.Refusal.the-variants.{OutOfRange}
 use Rattle.signed.specs.Bias.{unbiased}
 use Rattle.signed.proofs.Machine.{crossed}
-use Rattle.calendar.specs.Calendar.{exists, inYears}
+use Rattle.calendar.specs.Calendar.{hasYearZero, exists, inYears}
 use Rattle.calendar.specs.Answers.{dayAnswer}
 use Rattle.calendar.specs.declared.Date.{Date}
 use Rattle.calendar.specs.declared.DayAnswer.{DayAnswer}
+use Rattle.calendar.proofs.Labels.{first-low}
 use Rattle.calendar.proofs.Answering.{year-out, date-there}
 use Rattle.step.specs.Answers.{steppedBack}
 use Rattle.step.specs.Closed.{monthAt, monthCount, monthsOf}
@@ -137,7 +138,9 @@ returns-4 c =
     (year-past (s m .args .c) (s m .args .x) (s m .args .y) (s m .pre) (s m .args .part) (steps m) 240000 (omega (arith, reached m, c .if4 .taken)))
 
 day-in-requires : tie.Need-day-in-requires
-day-in-requires c κs = (omega (arith, c .if4 .left), ap (exists (s (found c) .args .c)) (date-is c) ∙ there c)
+day-in-requires c κs =
+    let f = c .before .before in
+    (omega (arith, f .first-year .ensures .0, first-low (hasYearZero (s (found c) .args .c)), c .before .if3 .left), (omega (arith, c .if4 .left), ap (exists (s (found c) .args .c)) (date-is c) ∙ there c))
 
 returns-5 : tie.Need-returns-5
 returns-5 c =

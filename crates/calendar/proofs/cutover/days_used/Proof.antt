@@ -14,17 +14,16 @@ by-test zero true e = refl
 by-test zero false e = refl
 by-test (suc k) t e = ap (λ (b : Bool). cond b (suc k) zero) (sym e)
 
-returns-2 : tie.Need-returns-2
-returns-2 c = let a = c .before in by-test (a .before .before .args .k) true (sym (a .is-allowed .ensures) ∙ c .if2 .taken)
+returns : tie.Need-returns
+returns c = let a = c .before in by-test (a .before .args .k) true (sym (a .is-allowed .ensures) ∙ c .if1 .taken)
 
-returns-3 : tie.Need-returns-3
-returns-3 c = let a = c .before in by-test (a .before .before .args .k) false (sym (a .is-allowed .ensures) ∙ c .if2 .left)
+returns-2 : tie.Need-returns-2
+returns-2 c = let a = c .before in by-test (a .before .args .k) false (sym (a .is-allowed .ensures) ∙ c .if1 .left)
 
 pub days-used-spec : {M : Type 1} → statement M
 days-used-spec =
     tie.close
     (tie.spec
-    (λ c. search needs)
     (λ c κs. search needs)
-    returns-2
-    returns-3)
+    returns
+    returns-2)

@@ -11,12 +11,12 @@ use Rattle.signed.specs.Bias.{unbiased}
 use Rattle.signed.proofs.Differences.{same-diff}
 use Rattle.signed.proofs.Machine.{crossed}
 use Rattle.calendar.specs.Calendar.{date, exists, dateOf}
-use Rattle.calendar.specs.Closed.{yearAt}
+use Rattle.calendar.specs.Closed.{yearAt, hasDayAt}
 use Rattle.calendar.specs.declared.Calendar.the-variants.{ProlepticGregorian}
 use Rattle.calendar.specs.declared.Date.{Date}
 use Rattle.calendar.specs.declared.rule.Rule.{Rule}
 use Rattle.calendar.proofs.Ordered.{date-eq}
-use Rattle.calendar.proofs.Counting.{Parts, parts-of, count-small, has-by}
+use Rattle.calendar.proofs.Counting.{Parts, parts-of, count-small, gregorian-has}
 use Rattle.calendar.proofs.AnyYear.{year-of-day, from-1970, day-number}
 use Rattle.calendar.proofs.Theorems.{dates-exist}
 use borrow.Author.Needs.{needs}
@@ -47,7 +47,7 @@ returns-2 : tie.Need-returns-2
 returns-2 c n h e = omega (arith, c .if2 .taken, bounds (c .before .before) n h e)
 
 -- whether the date exists, by the count of its year
-module _ (f : tie.After-exists-in-year) where
+module _ (f : tie.After-has-day) where
   abbrev b : tie.After-biased
   b = f .before .before .before
 
@@ -60,31 +60,34 @@ module _ (f : tie.After-exists-in-year) where
   written : date (yearAt true y) (x b .month) (x b .day) ≡ x b
   written = date-eq (same-diff y 10000 (k b) 9223372036854775808 (omega (arith, f .before .before .if1 .left)) ∙ year-is b) refl refl
 
-  there : {t : Bool} → f .exists-in-year .result ≡ t → exists ProlepticGregorian (date (yearAt true y) (x b .month) (x b .day)) ≡ t
-  there h = sym (f .exists-in-year .ensures) ∙ h
+  there : {t : Bool} → f .has-day .result ≡ t → exists ProlepticGregorian (date (yearAt true y) (x b .month) (x b .day)) ≡ t
+  there h = gregorian-has y (x b .month) (x b .day) ∙ (sym (f .has-day .ensures) ∙ h)
 
 returns-3 : tie.Need-returns-3
 returns-3 c n h e =
     let f = c .before in
-    let r = f .exists-in-year .result in
+    let r = f .has-day .result in
     true≢false (sym (dates-exist ProlepticGregorian (pos n)) ∙ (ap (exists ProlepticGregorian) (e ∙ sym (written f)) ∙ there f (not-true r (c .if3 .taken))))
 
 -- a date that exists
 module _ (e : tie.Else3) where
-  abbrev found : tie.After-exists-in-year
+  abbrev found : tie.After-has-day
   found = e .before
 
   abbrev d : Date
   d = x (b found)
 
   exists-it : exists ProlepticGregorian (date (yearAt true (y found)) (d .month) (d .day)) ≡ true
-  exists-it = there found (not-false (found .exists-in-year .result) (e .if3 .left))
+  exists-it = there found (not-false (found .has-day .result) (e .if3 .left))
+
+  has-it : hasDayAt Rule.Gregorian (y found) (d .month) (d .day) ≡ true
+  has-it = sym (gregorian-has (y found) (d .month) (d .day)) ∙ exists-it
 
   parts : Parts Rule.Gregorian (y found) (d .month) (d .day)
-  parts = parts-of Rule.Gregorian (y found) (d .month) (d .day) (has-by ProlepticGregorian (y found) (d .month) (d .day) exists-it)
+  parts = parts-of Rule.Gregorian (y found) (d .month) (d .day) has-it
 
   day-high : d .day ≤ 31
-  day-high = count-small Rule.Gregorian (y found) (d .month) (d .day) (has-by ProlepticGregorian (y found) (d .month) (d .day) exists-it) .0
+  day-high = count-small Rule.Gregorian (y found) (d .month) (d .day) has-it .0
 
 sub-t9 : tie.Need-sub-t9
 sub-t9 c = parts (c .before) .month-low

@@ -1,20 +1,23 @@
 -- `calendar::row::from_of` meets its contract.
-use mathlib.Core.Path.{_≡_, refl, sym, ap, subst, _∙_}
+use mathlib.Core.Path.{_≡_, refl, sym, ap, _∙_}
 use mathlib.Core.List.{_∷_, []}
-use Prim.Native.Nat.{ℕ, _≤_}
+use Prim.Native.Nat.{ℕ, _+_}
+use native.Mathlib.Omega.{arith}
 use types.Run.{OneOf, miss}
 use denote.Enum.Declared.{tagOf}
-use Rattle.calendar.specs.Calendar.{standardRow}
-use Rattle.calendar.specs.Closed.{meetingPlace, countedRow, counts}
+use Rattle.calendar.specs.Closed.{placeAt, placeOf, counts}
 use Rattle.calendar.specs.declared.Calendar.{Calendar}
+use Rattle.calendar.specs.declared.rule.Rule.{Rule}
+use Rattle.calendar.specs.Calendar.{daysUsed}
 use Rattle.calendar.proofs.Calendar.{the-type}
-use Rattle.calendar.proofs.Cutovers.{used}
+use Rattle.calendar.proofs.Places.{place-at}
+use Rattle.calendar.proofs.Cutovers.{used, from-at}
 use borrow.Author.Needs.{needs}
 use Rattle.calendar.proofs.row.from_of.Statement.{statement}
 use Rattle.calendar.proofs.row.from_of.Tie as tie
 
 -- the parts of the calendars of the second arm meet
-plain : (c : Calendar) → OneOf (1 ∷ 2 ∷ 3 ∷ 4 ∷ 5 ∷ []) (tagOf the-type c) → meetingPlace ≡ counts c .from
+plain : (c : Calendar) → OneOf (1 ∷ 2 ∷ 3 ∷ 4 ∷ 5 ∷ []) (tagOf the-type c) → placeAt 11582 9 14 ≡ counts c .from
 plain (Calendar.Standard k) h = absurd (miss (1 ∷ 2 ∷ 3 ∷ 4 ∷ 5 ∷ []) 0 tt h)
 plain Calendar.ProlepticGregorian h = refl
 plain Calendar.Julian h = refl
@@ -22,13 +25,20 @@ plain Calendar.NoLeap h = refl
 plain Calendar.AllLeap h = refl
 plain Calendar.Day360 h = refl
 
-from-after-requires : tie.Need-from-after-requires
-from-after-requires c κs = subst (λ (n : ℕ). n ≤ 124624) (sym (c .days-used .ensures)) (used (c .before .before .c .given .0 .0) .most)
+add-place-of : tie.Need-add-place-of
+add-place-of c = record { fits = omega (arith, c .days-used .ensures, used (c .before .before .c .given .0 .0) .most) }
+
+place-of-requires : tie.Need-place-of-requires
+place-of-requires c κs = omega (arith, c .days-used .ensures, used (c .before .before .c .given .0 .0) .most)
 
 returns : tie.Need-returns
 returns c =
     let d = c .before in
-    c .from-after .ensures ∙ (ap (λ (n : ℕ). countedRow (standardRow n) .from) (d .days-used .ensures) ∙ ap (λ (x : Calendar). counts x .from) (sym (d .before .before .c .given .1)))
+    let k = d .before .before .c .given in
+    let n = daysUsed (k .0 .0) in
+    c .place-of .ensures
+    ∙ (ap (λ (i : ℕ). placeOf Rule.Gregorian (4230526 + i)) (d .days-used .ensures)
+    ∙ (place-at Rule.Gregorian (4230526 + n) ∙ (sym (from-at n) ∙ ap (λ (x : Calendar). counts x .from) (sym (k .1)))))
 
 pub from-of-spec : {M : Type 1} → statement M
 from-of-spec =
@@ -36,7 +46,7 @@ from-of-spec =
     (tie.spec
     (λ c. search needs)
     (λ c κs. search needs)
-    from-after-requires
+    add-place-of
+    place-of-requires
     returns
-    (λ c κs. search needs)
-    (λ c. c .meeting .ensures ∙ plain (c .before .before .args .c) (c .before .match .keys2)))
+    (λ c. plain (c .before .args .c) (c .match .keys2)))

@@ -1,7 +1,8 @@
--- `calendar::row::is_early_day` meets its contract: between the first cutover and the last the calendar's own is compared.
+-- `calendar::row::is_early_day` meets its contract.
 use mathlib.Core.Path.{_≡_, refl, sym, ap, _∙_}
 use mathlib.Core.List.{_∷_, []}
-use Prim.Native.Nat.{ℕ, _+_}
+use mathlib.Core.Bool.{Bool, true, false, cond}
+use Prim.Native.Nat.{ℕ, zero, suc, _+_, _≤_, _<_}
 use native.Mathlib.Omega.{arith}
 use types.Run.{OneOf, miss}
 use denote.Enum.Declared.{tagOf}
@@ -9,9 +10,9 @@ use lib.Dec.{ltb}
 use borrow.Author.Tests.{lt-ltb, le-ltb}
 use Rattle.calendar.specs.Calendar.{daysUsed}
 use Rattle.calendar.specs.Closed.{counts, lateFrom}
+use Rattle.calendar.specs.Cutover.{allowedAfter}
 use Rattle.calendar.specs.declared.Calendar.{Calendar}
 use Rattle.calendar.proofs.Calendar.{the-type}
-use Rattle.calendar.proofs.Cutovers.{used}
 use Rattle.calendar.proofs.Rows.{late-from}
 use borrow.Author.Needs.{needs}
 use Rattle.calendar.proofs.row.is_early_day.Statement.{statement}
@@ -26,6 +27,24 @@ plain Calendar.NoLeap h = refl
 plain Calendar.AllLeap h = refl
 plain Calendar.Day360 h = refl
 
+-- no cutover after the one that is carried is used
+within : (k : ℕ) → daysUsed k ≤ k
+within zero = omega arith
+within (suc k) = go (allowedAfter (suc k))
+  where
+    go : (t : Bool) → cond t (suc k) zero ≤ suc k
+    go true = omega arith
+    go false = omega arith
+
+-- after the first cutover, and before the one that is carried, a day is early where that is allowed
+between : (k n : ℕ) → 4230526 ≤ n → n < 4230526 + k → allowedAfter k ≡ ltb n (4230526 + daysUsed k)
+between zero n h g = absurd (omega arith)
+between (suc k) n h g = go (allowedAfter (suc k))
+  where
+    go : (t : Bool) → t ≡ ltb n (4230526 + cond t (suc k) zero)
+    go true = sym (lt-ltb n (4230526 + suc k) g)
+    go false = sym (le-ltb n (4230526 + zero) (omega arith))
+
 -- `standard` is late from its cutover on
 module _ (e : tie.After-known-told) where
   abbrev k : ℕ
@@ -37,21 +56,18 @@ module _ (e : tie.After-known-told) where
 returns : tie.Need-returns
 returns c = let e = c .before in sym (lt-ltb (e .before .before .before .args .n) _ (omega (arith, from e, c .if1 .taken)))
 
--- with that of 1582
+-- from the cutover that is carried on, whether it is allowed or not
 returns-2 : tie.Need-returns-2
 returns-2 c =
-    let l = c .before in
-    let e = l .before in
-    sym (le-ltb (e .before .before .before .args .n) _ (omega (arith, from e, ap daysUsed (c .if2 .taken), l .if1 .left)))
+    let e = c .before .before in
+    sym (le-ltb (e .before .before .before .args .n) _ (omega (arith, from e, within (e .before .c .given .0 .0), c .if2 .taken)))
 
+-- between the first and that
 returns-3 : tie.Need-returns-3
-returns-3 c = let e = c .before .before .before in sym (le-ltb (e .before .before .before .args .n) _ (omega (arith, from e, used (e .before .c .given .0 .0) .most, c .if3 .taken)))
-
-add-result : tie.Need-add-result
-add-result c = record { fits = omega (arith, c .days-used .ensures, used (c .before .before .before .before .before .c .given .0 .0) .most) }
-
-returns-4 : tie.Need-returns-4
-returns-4 c = let e = c .before .before .before .before in ap (ltb (e .before .before .before .args .n)) (ap (λ (d : ℕ). 4230526 + d) (c .days-used .ensures) ∙ sym (from e))
+returns-3 c =
+    let l = c .before in
+    let e = l .before .before in
+    c .is-allowed .ensures ∙ (between (e .before .c .given .0 .0) (e .before .before .before .args .n) (l .before .if1 .left) (l .if2 .left) ∙ ap (ltb (e .before .before .before .args .n)) (sym (from e)))
 
 pub is-early-day-spec : {M : Type 1} → statement M
 is-early-day-spec =
@@ -59,10 +75,9 @@ is-early-day-spec =
     (tie.spec
     (λ c. search needs)
     returns
-    returns-2
     (λ c. search needs)
-    returns-3
+    (λ c. search needs)
+    returns-2
     (λ c κs. search needs)
-    add-result
-    returns-4
+    returns-3
     (λ c. sym (le-ltb (c .before .args .n) _ (omega (arith, plain (c .before .args .c) (c .match .keys2))))))
