@@ -47,6 +47,11 @@ fn axis(calendar: u32, period: u32, mode: u32) -> Axis {
     Axis { calendar, period, mode, reference: FROM_1900, cutover: CUTOVER_1582 }
 }
 
+/// Calendar months from 1752-09-20 with the English cutover.
+fn english_months() -> Axis {
+    Axis { reference: -79_360 * instants::DAY, cutover: ENGLISH, ..axis(0, 6, 1) }
+}
+
 /// Whole offsets of both signs, within about 100 years of the reference.
 fn whole_offsets(random: &mut Random, axis: Axis) -> Vec<i64> {
     let span = 100 * 365 * instants::DAY / crate::plain::period::microseconds(axis.period);

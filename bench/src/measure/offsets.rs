@@ -1,17 +1,13 @@
 //! Single offsets read and written.
 
-use super::{FROM_1900, axis, summed, whole_offsets};
+use super::{FROM_1900, axis, english_months, summed, whole_offsets};
 use crate::plain;
 use crate::timing::{compare, print_missing};
 use answers::{Axis, OffsetAnswer, Reading};
-use samples::cutovers::ENGLISH;
 use samples::{Random, instants};
 use uppinalo::{is_exported, raw};
 
 type Read<T> = unsafe extern "C" fn(Axis, T) -> Reading;
-/// 1752-09-20 with the English cutover.
-const FROM_1752: i64 = -79_360 * instants::DAY;
-
 type WriteInstant = unsafe extern "C" fn(Axis, i64) -> OffsetAnswer;
 
 fn read<T: Copy>(label: &str, axis: Axis, inputs: Vec<T>, ours: Read<T>, plain: Read<T>) {
@@ -38,8 +34,7 @@ pub fn reading() {
     let from_31st = Axis { reference: FROM_1900 + 30 * instants::DAY, ..axis(0, 6, 1) };
     whole("one whole offset read, calendar months from the 31st", from_31st);
     whole("one whole offset read, calendar years", axis(2, 7, 1));
-    let from_1752 = Axis { reference: FROM_1752, cutover: ENGLISH, ..axis(0, 6, 1) };
-    whole("one whole offset read, months, English cutover", from_1752);
+    whole("one whole offset read, months, English cutover", english_months());
     let mut double = |label: &str, axis: Axis, is_whole: bool| {
         let fraction = |whole: i64| whole as f64 + (random.bits() >> 11) as f64 / (1u64 << 53) as f64;
         let inputs = wholes(axis).into_iter();

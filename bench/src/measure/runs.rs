@@ -1,6 +1,6 @@
 //! Runs of doubles and of whole offsets. The destination is written whole each time and not cleared between.
 
-use super::{axis, whole_offsets};
+use super::{axis, english_months, whole_offsets};
 use crate::plain;
 use crate::timing::{compare, print_missing};
 use answers::{Axis, RunAnswer};
@@ -60,6 +60,7 @@ pub fn wholes() {
     run("run of whole offsets, milliseconds", axis(5, 1, 0));
     run("run of whole offsets, calendar months", axis(0, 6, 1));
     run("run of whole offsets, calendar years", axis(2, 7, 1));
+    run("run of whole offsets, months, English cutover", english_months());
 }
 
 /// How the cost of an element changes with the run's length.

@@ -90,7 +90,7 @@ written-is k = cutover-is k ∙ (sym (placed-date Rule.Gregorian false (4230526 
 
 -- ---- one place by the two rules
 
--- a leap year of the Gregorian rule is one of the Julian
+-- a month begins no earlier in a leap year
 no-shorter : ℕ → Bool
 no-shorter m = leb (monthStart 0 m) (monthStart 1 m)
 
@@ -98,6 +98,7 @@ leap-later : (m : ℕ) → m < 12 → monthStart 0 m ≤ monthStart 1 m
 unfolding all no-shorter monthStart monthDays
 leap-later m h = leb-true (monthStart 0 m) (monthStart 1 m) (each-month (λ k. no-shorter) refl refl refl 0 m (omega arith) h)
 
+-- and a leap year of the Gregorian rule is one of the Julian
 julian-later : (y m : ℕ) → m < 12 → monthStart (kindAt Rule.Gregorian y) m ≤ monthStart (kindAt Rule.Julian y) m
 unfolding kindAt
 julian-later y m h = go (eqb (y % 4) 0) (eqb (y % 100) 0) (eqb (y % 400) 0) refl refl
