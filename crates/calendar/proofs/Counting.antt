@@ -1,7 +1,7 @@
 -- From a date to its day: the tests and the counts of the code.
 use mathlib.Core.Path.{_≡_, refl, sym, ap, _∙_, subst}
 use mathlib.Core.Bool.{Bool, true, false, not, _&&_, _||_, cond, or-false, true≢false}
-use Prim.Native.Nat.{ℕ, suc, _+_, _-_, _*_, _<_, _≤_}
+use Prim.Native.Nat.{ℕ, suc, _+_, _-_, _<_, _≤_}
 use native.Mathlib.Omega.{arith}
 use native.Mathlib.Decide.{decLe}
 use lib.Dec.{leb, ltb, eqb}
@@ -18,8 +18,8 @@ use Rattle.calendar.specs.declared.Date.{Date}
 use Rattle.calendar.specs.declared.place.Place.{Place}
 use Rattle.calendar.specs.declared.rule.Rule.{Rule}
 use Rattle.calendar.specs.Answers.{isPossible}
-use Rattle.calendar.proofs.Years.{year-most, kind-low}
-use Rattle.calendar.proofs.Tables.{month-days, month-room}
+use Rattle.calendar.proofs.Years.{kind-low}
+use Rattle.calendar.proofs.Tables.{month-days}
 use Rattle.calendar.proofs.Places.{Proper}
 use Rattle.calendar.proofs.Ordered.{date-eq, Before, clash, year-eq, same-year}
 use Rattle.calendar.proofs.Labels.{kinds, there-at, name-lt}
@@ -30,24 +30,21 @@ use Rattle.calendar.proofs.Existing.{possible-parts}
 
 -- ---- a date of a rule, by the count of its year
 
-pub record Parts (r : Rule) (y m d : ℕ) : Type 0 where
-  pub month-low : 1 ≤ m
-  pub month-high : m ≤ 12
-  pub day-low : 1 ≤ d
-  pub day-high : d ≤ monthDays (kindAt r y) (m - 1)
+record HasDay (r : Rule) (y m d : ℕ) : Type 0 where
+  month-low : 1 ≤ m
+  month-high : m ≤ 12
+  day-low : 1 ≤ d
+  day-high : d ≤ monthDays (kindAt r y) (m - 1)
 
 module _ (r : Rule) (y m d : ℕ) where
-  pub parts-of : hasDayAt r y m d ≡ true → Parts r y m d
+  has-day : hasDayAt r y m d ≡ true → HasDay r y m d
   unfolding hasDayAt
-  parts-of h =
+  has-day h =
       let l = monthDays (kindAt r y) (m - 1) in
       let q = and-parts (leb 1 m && leb m 12) (leb 1 d && leb d l) h in
       let a = and-parts (leb 1 m) (leb m 12) (q .0) in
       let b = and-parts (leb 1 d) (leb d l) (q .1) in
       record { month-low = leb-true 1 m (a .0); month-high = leb-true m 12 (a .1); day-low = leb-true 1 d (b .0); day-high = leb-true d l (b .1) }
-
-  not-at : (Parts r y m d → ⊥) → hasDayAt r y m d ≡ false
-  not-at f = to-false (hasDayAt r y m d) (λ h. f (parts-of h))
 
   -- where the month and the day are possible, the length of the month decides
   pub by-length : isPossible m d ≡ true → hasDayAt r y m d ≡ ltb (d - 1) (monthDays (kindAt r y) (m - 1))
@@ -60,20 +57,13 @@ module _ (r : Rule) (y m d : ℕ) where
   -- and else there is no such day
   pub not-possible : isPossible m d ≡ false → hasDayAt r y m d ≡ false
   not-possible e =
-      not-at (λ p.
+      to-false (hasDayAt r y m d) (λ h.
+      let p = has-day h in
       let w = month-days (kindAt r y) (m - 1) (kind-low r y) (omega (arith, p .month-low, p .month-high)) in
       true≢false (sym (both (leb 1 m && leb m 12) (leb 1 d && leb d 31) (both (leb 1 m) (leb m 12) (le-leb 1 m (p .month-low)) (le-leb m 12 (p .month-high))) (both (leb 1 d) (leb d 31) (le-leb 1 d (p .day-low)) (le-leb d 31 (omega (arith, p .day-high, w))))) ∙ e))
 
-  module _ (h : hasDayAt r y m d ≡ true) where
-    proper-at : Proper r (dayPlace y m d)
-    proper-at = let p = parts-of h in record { month = omega (arith, p .month-low, p .month-high); day = omega (arith, p .day-low, p .day-high) }
-
-    pub count-small : (d ≤ 31) × (count r (dayPlace y m d) ≤ 366 * y + 500)
-    unfolding count
-    count-small =
-        let p = parts-of h in
-        let w = month-days (kindAt r y) (m - 1) (kind-low r y) (omega (arith, p .month-low, p .month-high)) in
-        omega (arith, year-most r y, month-room (kindAt r y) (m - 1) (kind-low r y) (omega (arith, p .month-high)), p .month-high, p .day-high)
+  proper-at : hasDayAt r y m d ≡ true → Proper r (dayPlace y m d)
+  proper-at h = let p = has-day h in record { month = omega (arith, p .month-low, p .month-high); day = omega (arith, p .day-low, p .day-high) }
 
 module _ (p : Plain) (y m d : ℕ) where
   exists-at : hasDay p (date (yearAt (p .zero) y) m d) ≡ hasDayAt (p .rule) y m d
@@ -88,7 +78,7 @@ module _ (p : Plain) (y m d : ℕ) where
 
   date-at : hasDayAt (p .rule) y m d ≡ true → dayDate p (count (p .rule) (dayPlace y m d)) ≡ date (yearAt (p .zero) y) m d
   date-at h =
-      let v = parts-of (p .rule) y m d h in
+      let v = has-day (p .rule) y m d h in
       place-date p (dayPlace y m d) (proper-at (p .rule) y m d h) ∙ date-eq refl (omega (arith, v .month-low)) (omega (arith, v .day-low))
 
 -- ---- which part of its calendar a date belongs to
@@ -227,7 +217,7 @@ module _ (r : CalendarRow) (h : Cutover r) (y m d : ℕ) where
         go true f = on-side (hasDayAt (r .late) y m d ≡ true) (λ a b. absurd (omega (arith, high, late-from-cutover f, h .ahead f (dayPlace y m d) (proper-at (r .early) y m d a) b))) (λ a b. a)
         go false f = on-side (hasDayAt (r .late) y m d ≡ true) (λ a b. ap (λ (q : Rule). hasDayAt q y m d) (sym (h .alone f)) ∙ a) (λ a b. a)
 
-    pub day-is : dateBy r (subℕ (count (ruleAt k y m d) (dayPlace y m d)) (rowEpoch k + lagAt k y m d)) ≡ x
+    day-is : dateBy r (subℕ (count (ruleAt k y m d) (dayPlace y m d)) (rowEpoch k + lagAt k y m d)) ≡ x
     day-is = go (isEarly k y m d) refl
       where
         go : (t : Bool) → isEarly k y m d ≡ t → dateBy r (subℕ (count (cond t (r .early) (r .late)) (dayPlace y m d)) (rowEpoch k + cond t (lag k) 0)) ≡ x

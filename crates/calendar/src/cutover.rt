@@ -12,7 +12,7 @@ pub const FIRST: u64 = 4230526;
 
 pub const LAST_KEPT: u64 = 4230602;
 
-pub const MOST_DAYS: u64 = 124624;
+const MOST_DAYS: u64 = 124624;
 
 // Whether the cutover k days after 1582-10-15 is allowed. Its date, as the Julian calendar counts it, lies 306 days before the end of the
 // year that begins with March, as in the Gregorian; the days up to it are dropped, and must fit into the month of the last day kept.

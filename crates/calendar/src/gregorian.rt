@@ -7,7 +7,6 @@ use crate::Calendar;
 use crate::Date;
 use crate::ordinal;
 use crate::place;
-use crate::place::Place;
 use crate::rule::Rule;
 
 // Whether a date exists. 2^63 + 192 and 10000 are multiples of 400, so year y, counted from -10000, is of the same kind as that of
@@ -40,11 +39,7 @@ pub fn day_since_1970(x: Date) -> DaySince
     if !ordinal::has_day(Rule::Gregorian, y, x.month, x.day) {
         return DaySince::Nothing;
     }
-    let p = Place {
-        y,
-        m: (x.month - 1) as usize,
-        i: (x.day - 1) as u64,
-    };
+    let p = ordinal::place_at(y, x.month, x.day);
     return DaySince::Is(
         place::days_before(Rule::Gregorian, p) - crate::epoch_day(Calendar::ProlepticGregorian),
     );

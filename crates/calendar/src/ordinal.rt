@@ -28,7 +28,7 @@ pub fn is_possible(month: u32, day: u32) -> bool
 }
 
 // The place of a date.
-fn place_at(y: u64, month: u32, day: u32) -> Place
+pub fn place_at(y: u64, month: u32, day: u32) -> Place
     requires { ⌜ isPossible month day ≡ true ⌝ }
     ensures { λ p. ⌜ p ≡ dayPlace y month day ⌝ }
 {

@@ -61,7 +61,7 @@ pub fn from_of(c: Calendar) -> Place
 }
 
 // Whether a calendar is mixed of two: its late part does not go on where its early part ends.
-pub fn is_mixed(c: Calendar) -> bool
+fn is_mixed(c: Calendar) -> bool
     ensures { λ b. ⌜ b ≡ mixed (counts c) ⌝ }
 {
     match c {

@@ -11,12 +11,14 @@ use Rattle.signed.specs.Bias.{unbiased}
 use Rattle.signed.proofs.Differences.{same-diff}
 use Rattle.signed.proofs.Machine.{crossed}
 use Rattle.calendar.specs.Calendar.{date, exists, dateOf}
-use Rattle.calendar.specs.Closed.{yearAt, hasDayAt}
+use Rattle.calendar.specs.Closed.{count, dayPlace, yearAt}
 use Rattle.calendar.specs.declared.Calendar.the-variants.{ProlepticGregorian}
 use Rattle.calendar.specs.declared.Date.{Date}
+use Rattle.calendar.specs.Answers.{isPossible}
 use Rattle.calendar.specs.declared.rule.Rule.{Rule}
 use Rattle.calendar.proofs.Ordered.{date-eq}
-use Rattle.calendar.proofs.Counting.{Parts, parts-of, count-small, gregorian-has}
+use Rattle.calendar.proofs.Existing.{exists-possible, possible-parts}
+use Rattle.calendar.proofs.Counting.{gregorian-has}
 use Rattle.calendar.proofs.AnyYear.{year-of-day, from-1970, day-number}
 use Rattle.calendar.proofs.Theorems.{dates-exist}
 use borrow.Author.Needs.{needs}
@@ -80,35 +82,31 @@ module _ (e : tie.Else3) where
   exists-it : exists ProlepticGregorian (date (yearAt true (y found)) (d .month) (d .day)) ≡ true
   exists-it = there found (not-false (found .has-day .result) (e .if3 .left))
 
-  has-it : hasDayAt Rule.Gregorian (y found) (d .month) (d .day) ≡ true
-  has-it = sym (gregorian-has (y found) (d .month) (d .day)) ∙ exists-it
+  possible : isPossible (d .month) (d .day) ≡ true
+  possible = exists-possible ProlepticGregorian (date (yearAt true (y found)) (d .month) (d .day)) exists-it
 
-  parts : Parts Rule.Gregorian (y found) (d .month) (d .day)
-  parts = parts-of Rule.Gregorian (y found) (d .month) (d .day) has-it
-
-  day-high : d .day ≤ 31
-  day-high = count-small Rule.Gregorian (y found) (d .month) (d .day) has-it .0
-
-sub-t9 : tie.Need-sub-t9
-sub-t9 c = parts (c .before) .month-low
-
-sub-t11 : tie.Need-sub-t11
-sub-t11 c = parts (c .before .before) .day-low
+place-at-requires : tie.Need-place-at-requires
+place-at-requires c κs = possible c
 
 days-before-requires : tie.Need-days-before-requires
 days-before-requires c κs =
-    let e = c .before .before in
-    (inside (found e) .1, (omega (arith, parts e .month-low, parts e .month-high), omega (arith, day-high e)))
+    let e = c .before in
+    let w = possible-parts (d e .month) (d e .day) (possible e) in
+    rw (c .place-at .ensures) (inside (found e) .1, (omega (arith, w), omega (arith, w)))
 
-sub-t14 : tie.Need-sub-t14
-sub-t14 c =
-    let e = c .before .before .before .before in
-    omega (arith, c .epoch-day .ensures, c .before .days-before .ensures, from-1970 (y (found e)) (d e .month) (d e .day) (inside (found e) .0))
+-- its days
+counted : (c : tie.After-days-before) → let e = c .before .before in c .days-before .result ≡ count Rule.Gregorian (dayPlace (y (found e)) (d e .month) (d e .day))
+counted c = c .days-before .ensures ∙ ap (count Rule.Gregorian) (c .before .place-at .ensures)
+
+sub-t11 : tie.Need-sub-t11
+sub-t11 c =
+    let e = c .before .before .before in
+    omega (arith, c .epoch-day .ensures, counted (c .before), from-1970 (y (found e)) (d e .month) (d e .day) (inside (found e) .0))
 
 returns-4 : tie.Need-returns-4
 returns-4 c =
-    let e = c .before .before .before .before in
-    (λ i. dateOf ProlepticGregorian (pos (c .before .days-before .ensures i - c .epoch-day .ensures i)))
+    let e = c .before .before .before in
+    (λ i. dateOf ProlepticGregorian (pos (counted (c .before) i - c .epoch-day .ensures i)))
     ∙ (day-number (y (found e)) (d e .month) (d e .day) (inside (found e) .0) (exists-it e) ∙ written (found e))
 
 pub day-since-1970-spec : {M : Type 1} → statement M
@@ -124,11 +122,8 @@ day-since-1970-spec =
     (λ c. search needs)
     (λ c κs. search needs)
     returns-3
-    sub-t9
-    (λ c. search needs)
-    sub-t11
-    (λ c. search needs)
+    place-at-requires
     days-before-requires
     (λ c κs. search needs)
-    sub-t14
+    sub-t11
     returns-4)
