@@ -1,5 +1,7 @@
 // Axes: one offset read as an instant, and an instant or fields written as a whole offset, in fixed and in calendar mode. Every call on an
 // axis goes by `check_axis`. A reader may rely on specs/Axis.antt and on the theorems of proofs/Demands.antt.
+#![tactic(auto)]
+
 ghost use Rattle.std.specs.Prelude.{◌≡◌, true};
 ghost use Rattle.instant.specs.Instant.{in_range};
 ghost use Rattle.axis_types.specs.Reading.{with_days_back};
@@ -12,7 +14,7 @@ use refusal::Refusal;
 use step::Part;
 
 // Whether an axis can be read and written on at all.
-#[derive(Drop)]
+#[derive(Clone, Copy)]
 pub enum AxisCheck {
     Good,
     Refused(Refusal),
@@ -29,7 +31,7 @@ pub fn check_axis(axis: Axis) -> AxisCheck
 }
 
 // What a whole offset moves on an axis: the time, or a part of the date.
-#[derive(Drop)]
+#[derive(Clone, Copy)]
 pub enum Step {
     Time,
     Date(Part),

@@ -1,4 +1,6 @@
 // An axis read from a calendar name, a cutover and a units text (specs/Units.antt). `read_units` is total.
+#![tactic(auto)]
+
 ghost use Rattle.std.specs.Prelude.{◌≡◌};
 ghost use Rattle.axis_text.specs.Units.{axis_of, read_units};
 
@@ -10,7 +12,7 @@ use refusal::Refusal;
 use units_text::{Units, UnitsAnswer};
 
 // The axis that was read.
-#[derive(Drop)]
+#[derive(Clone, Copy)]
 pub enum AxisAnswer {
     Is(Axis),
     Refused(Refusal),

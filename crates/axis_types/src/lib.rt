@@ -1,5 +1,7 @@
 // The words of document 01 for an axis and its offsets, as types: period, mode, axis, offset, and what reading and writing an offset answer.
 // `microseconds` is the length of a period in fixed mode.
+#![tactic(auto)]
+
 ghost use Rattle.std.specs.Prelude.{◌≡◌};
 ghost use Rattle.axis_types.specs.Lengths.{length_of};
 ghost use Rattle.axis_types.specs.Reading.{with_days_back};
@@ -7,7 +9,7 @@ ghost use Rattle.axis_types.specs.Reading.{with_days_back};
 use calendar::Calendar;
 use refusal::Refusal;
 
-#[derive(Drop)]
+#[derive(Clone, Copy)]
 pub enum Period {
     Second,
     Millisecond,
@@ -19,13 +21,13 @@ pub enum Period {
     Year,
 }
 
-#[derive(Drop)]
+#[derive(Clone, Copy)]
 pub enum Mode {
     Fixed,
     Calendar,
 }
 
-#[derive(Drop)]
+#[derive(Clone, Copy)]
 pub struct Axis {
     pub calendar: Calendar,
     pub period: Period,
@@ -33,28 +35,28 @@ pub struct Axis {
     pub reference: i64,
 }
 
-#[derive(Drop)]
+#[derive(Clone, Copy)]
 pub enum Offset {
     Whole(i64),
     Double(f64),
 }
 
 // What an offset is read as: an instant and whether it is the exact time, or a refusal.
-#[derive(Drop)]
+#[derive(Clone, Copy)]
 pub enum Reading {
     At(i64, bool),
     Refused(Refusal),
 }
 
 // What an offset is read as when it is read alone: the reading, and the days that the day of the month was stepped back, 0 beside a refusal.
-#[derive(Drop)]
+#[derive(Clone, Copy)]
 pub struct OffsetReading {
     pub reading: Reading,
     pub days_back: u32,
 }
 
 // The whole offset that an instant is written as, or a refusal.
-#[derive(Drop)]
+#[derive(Clone, Copy)]
 pub enum OffsetAnswer {
     Is(i64),
     Refused(Refusal),

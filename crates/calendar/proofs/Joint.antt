@@ -1,7 +1,7 @@
 -- Two plain calendars joined at a day: their dates follow each other as those of a plain one do, whatever the two are, if the last
 -- day of the one comes before the first of the other.
 use mathlib.Core.Path.{◌≡◌, refl, sym, ap, ◌∙◌, subst}
-use mathlib.Core.Bool.{Bool, true, false, not, ◌&&◌, cond, and_true, true≢false}
+use mathlib.Core.Bool.{Bool, true, false, not, ◌&&◌, cond, and-true, true≢false}
 use borrow.Author.Tests.{not-true}
 use Rattle.signed.proofs.Tests.{and_parts}
 use Rattle.calendar.specs.Plain.{day_after, day_before, has_day}
@@ -41,7 +41,7 @@ module _ (r : CalendarRow) (s : Junction r) where
 
   pub exists_early : (d : Date) → (Before r.last d → ⊥) → exists_by r d ≡ has_day (early_part r) d
   unfolding exists_by
-  exists_early d f = rw (earlier_of d r.first (below d f), not_earlier r.last d f) (and_true (has_day (early_part r) d))
+  exists_early d f = rw (earlier_of d r.first (below d f), not_earlier r.last d f) (and-true (has_day (early_part r) d))
 
   pub exists_on : (d : Date) → Side r d → exists_by r d ≡ true
   unfolding exists_by

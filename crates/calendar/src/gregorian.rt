@@ -17,7 +17,7 @@ pub fn exists_in_any_year(x: Date) -> bool
 }
 
 // The day number of a date, counted from 1970-01-01, or that it has none from 0 to 2^63 - 1.
-#[derive(Drop)]
+#[derive(Clone, Copy)]
 pub enum DaySince {
     Is(u64),
     Nothing,

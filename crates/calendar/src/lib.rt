@@ -1,5 +1,7 @@
 // The six calendars: the date of a day number and the day number of a date, counted from 1970-01-01, proved against each
 // calendar's next-day rule (specs/Calendar.antt). Both calls are total.
+#![tactic(auto)]
+
 ghost use Rattle.std.specs.Prelude.{◌≡◌, true, ◌-◌, ◌≤◌};
 ghost use Rattle.signed.specs.Bias.{unbiased};
 ghost use Rattle.calendar.specs.Answers.{date_answer, refusal_with, day_answer};
@@ -18,7 +20,7 @@ mod row;
 mod rule;
 
 // `standard` carries its cutover, as the days after 1582-10-15.
-#[derive(Drop)]
+#[derive(Clone, Copy)]
 pub enum Calendar {
     Standard(u32),
     ProlepticGregorian,
@@ -30,7 +32,7 @@ pub enum Calendar {
 
 // A date as it is written: month and day count from 1.
 #[repr(C)]
-#[derive(Drop)]
+#[derive(Clone, Copy)]
 pub struct Date {
     pub year: i64,
     pub month: u32,
@@ -38,14 +40,14 @@ pub struct Date {
 }
 
 // The date of a day number.
-#[derive(Drop)]
+#[derive(Clone, Copy)]
 pub enum DateAnswer {
     Is(Date),
     Refused(Refusal),
 }
 
 // The day number of a date.
-#[derive(Drop)]
+#[derive(Clone, Copy)]
 pub enum DayAnswer {
     Is(i64),
     Refused(Refusal),
@@ -147,7 +149,7 @@ pub fn has_year_zero(c: Calendar) -> bool
 }
 
 // A year as a count from -10000, or that the calendar has no such year.
-#[derive(Drop)]
+#[derive(Clone, Copy)]
 pub enum YearCount {
     Is(u64),
     Missing,
@@ -182,7 +184,7 @@ fn in_years(k: u64) -> bool
 }
 
 // The day number of a date, or that there is none.
-#[derive(Drop)]
+#[derive(Clone, Copy)]
 pub enum FoundDay {
     Is(i64),
     Nothing,

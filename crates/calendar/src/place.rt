@@ -6,7 +6,7 @@ ghost use Rattle.calendar.specs.Closed.{kind_at, years_back, from_march, place_o
 use crate::rule::{Rule, YearDay};
 use crate::{month, rule};
 
-#[derive(Drop)]
+#[derive(Clone, Copy)]
 pub struct Place {
     pub y: u64,
     pub m: usize,

@@ -8,7 +8,7 @@ use crate::rule::Rule;
 use crate::{Calendar, cutover, place};
 
 // Whether the calendar has a year 0, its rule of years before the cutover, and that from it on.
-#[derive(Drop)]
+#[derive(Clone, Copy)]
 pub struct Parts {
     pub zero: bool,
     pub early: Rule,

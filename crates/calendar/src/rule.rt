@@ -3,7 +3,7 @@
 ghost use Rattle.std.specs.Prelude.{◌≡◌, ◌<◌, ◌^◌};
 ghost use Rattle.calendar.specs.Closed.{kind_at, year_start, julian_count, year_day};
 
-#[derive(Drop)]
+#[derive(Clone, Copy)]
 pub enum Rule {
     Gregorian,
     Julian,
@@ -68,7 +68,7 @@ pub fn julian_count(n: u64) -> u64
 }
 
 // A day within its year, both counted from 0, the year from -10000.
-#[derive(Drop)]
+#[derive(Clone, Copy)]
 pub struct YearDay {
     pub y: u64,
     pub d: u64,

@@ -1,6 +1,8 @@
 // Calendar mode for months and years: one offset read as an instant, and an instant written as a whole offset, from a reference in the
 // range. A run finds the start of its steps once, and reads each offset or writes each instant from it. A reader may rely on
 // specs/Steps.antt and on the theorems of proofs/Demands.antt.
+#![tactic(auto)]
+
 ghost use Rattle.std.specs.Prelude.{◌≡◌, true, ◌<◌};
 ghost use Rattle.instant.specs.Instant.{day_length, in_range};
 ghost use Rattle.step.specs.Closed.{YearOf};
@@ -16,7 +18,7 @@ use refusal::Refusal;
 use step::{DayReached, Part, StepAnswer};
 
 // The date of a reference, its year, counted from -10000, and the time of day.
-#[derive(Drop)]
+#[derive(Clone, Copy)]
 pub struct Start {
     pub date: Date,
     pub year: u64,

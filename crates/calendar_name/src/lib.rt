@@ -1,4 +1,6 @@
 // Calendar names (specs/Names.antt): the calendar of a name, or that the name is not listed. `calendar_of` is total.
+#![tactic(auto)]
+
 ghost use Rattle.std.specs.Prelude.{◌≡◌, ◌≤◌, ◌<◌, length};
 ghost use Rattle.word_table.specs.Table.{lookup};
 ghost use Rattle.calendar_name.specs.Names.{calendar_names, calendar_of, calendar_named};
@@ -8,7 +10,7 @@ use grammar::same_bytes;
 use word_table::packed_of;
 
 // What a name names; `standard` with the cutover of 1582.
-#[derive(Drop)]
+#[derive(Clone, Copy)]
 pub enum CalendarNamed {
     Is(Calendar),
     Unknown,

@@ -2,6 +2,8 @@
 // are moved back and about cutovers, over the library's calls. A line for each case: the calendar, with its cutover where that is not of 1582, the
 // units text, the offset that is read or the date that is written, and the answer. The stored output is written by hand from the documents. The cases of the first two groups are proved over the definitions too
 // (specs/Cases.antt).
+#![tactic(auto)]
+
 use axis_text::AxisAnswer;
 use axis_types::{Axis, Offset, OffsetAnswer, Reading};
 use calendar::{Calendar, Date};

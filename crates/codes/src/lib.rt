@@ -1,4 +1,6 @@
 // The numbers by which calendars, periods and modes cross the C boundary, beside the cutover, which crosses as a date.
+#![tactic(auto)]
+
 ghost use Rattle.std.specs.Prelude.{◌≡◌};
 ghost use Rattle.codes.specs.Codes.{coded_calendar, calendar_given, coded_period, coded_mode, coded_axis, calendar_code, period_code, mode_code, axis_code};
 
@@ -8,7 +10,7 @@ use cutover::CalendarAnswer;
 use refusal::Refusal;
 
 #[repr(C)]
-#[derive(Drop)]
+#[derive(Clone, Copy)]
 pub struct UppinaloAxis {
     pub calendar: u32,
     pub period: u32,
@@ -17,25 +19,25 @@ pub struct UppinaloAxis {
     pub cutover: Date,
 }
 
-#[derive(Drop)]
+#[derive(Clone, Copy)]
 pub enum CodedCalendar {
     Is(Calendar),
     Unknown,
 }
 
-#[derive(Drop)]
+#[derive(Clone, Copy)]
 pub enum CodedPeriod {
     Is(Period),
     Unknown,
 }
 
-#[derive(Drop)]
+#[derive(Clone, Copy)]
 pub enum CodedMode {
     Is(Mode),
     Unknown,
 }
 
-#[derive(Drop)]
+#[derive(Clone, Copy)]
 pub enum CodedAxis {
     Is(Axis),
     Refused(Refusal),

@@ -1,5 +1,7 @@
 // The calendar that a name or a code has with a cutover (specs/Calendars.antt): the one place where a cutover is tested. `standard` is refused
 // with one that is not allowed, and carries another from here on; the other calendars take any date. `with_cutover` is total.
+#![tactic(auto)]
+
 ghost use Rattle.std.specs.Prelude.{◌≡◌, true};
 ghost use Rattle.calendar.specs.Calendar.{date};
 ghost use Rattle.calendar.specs.Cutover.{first_cutover};
@@ -10,7 +12,7 @@ use calendar::{Calendar, Date, FoundDay};
 use refusal::Refusal;
 
 // A calendar, or why there is none.
-#[derive(Drop)]
+#[derive(Clone, Copy)]
 pub enum CalendarAnswer {
     Is(Calendar),
     Refused(Refusal),

@@ -1,6 +1,8 @@
 // The date rule of document 01 with its time and zone (specs/DateRule.antt), and the functions that scan a text
 // for it, one for each part of the rule. `read_date` gives a whole text the value with which the rule derives
 // it, or refuses it. Nothing here knows a calendar: the fields are those that are written.
+#![tactic(auto)]
+
 ghost use Rattle.std.specs.Prelude.{◌≡◌, ◌-◌, ◌*◌, ◌^◌, ◌≤◌, ◌<◌, true, drop};
 ghost use Rattle.grammar.specs.Grammar.{every, ◌or◌, ◌▸◌};
 ghost use Rattle.grammar.specs.Reader.{scan, read, given, paired};
@@ -15,7 +17,7 @@ use grammar::{
 };
 
 // A zone: how far local time is ahead of UTC, or behind it.
-#[derive(Drop)]
+#[derive(Clone, Copy)]
 pub struct Zone {
     pub behind: bool,
     pub hours: u32,
@@ -23,7 +25,7 @@ pub struct Zone {
 }
 
 // A local time of day and its zone.
-#[derive(Drop)]
+#[derive(Clone, Copy)]
 pub struct Time {
     pub hour: u32,
     pub minute: u32,
@@ -33,7 +35,7 @@ pub struct Time {
 }
 
 // A date as it is written: local, and none of its fields tested.
-#[derive(Drop)]
+#[derive(Clone, Copy)]
 pub struct WrittenDate {
     pub negative: bool,
     pub year: u32,
@@ -43,50 +45,50 @@ pub struct WrittenDate {
 }
 
 // What each function finds at a place of a text: its values and the place after them, or nothing.
-#[derive(Drop)]
+#[derive(Clone, Copy)]
 pub enum ZoneAt {
     Found(Zone, usize),
     Nothing,
 }
 
-#[derive(Drop)]
+#[derive(Clone, Copy)]
 pub enum SecondAt {
     Found(u32, u32, usize),
     Nothing,
 }
 
-#[derive(Drop)]
+#[derive(Clone, Copy)]
 pub enum MinuteAt {
     Found(u32, u32, u32, usize),
     Nothing,
 }
 
-#[derive(Drop)]
+#[derive(Clone, Copy)]
 pub enum TimeAt {
     Found(Time, usize),
     Nothing,
 }
 
-#[derive(Drop)]
+#[derive(Clone, Copy)]
 pub enum DayAt {
     Found(u32, Time, usize),
     Nothing,
 }
 
-#[derive(Drop)]
+#[derive(Clone, Copy)]
 pub enum MonthAt {
     Found(u32, u32, Time, usize),
     Nothing,
 }
 
-#[derive(Drop)]
+#[derive(Clone, Copy)]
 pub enum WrittenAt {
     Found(WrittenDate, usize),
     Nothing,
 }
 
 // The answer to a whole text.
-#[derive(Drop)]
+#[derive(Clone, Copy)]
 pub enum WrittenAnswer {
     Read(WrittenDate),
     Refused,

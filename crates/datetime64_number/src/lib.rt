@@ -1,5 +1,7 @@
 // Numbers of a datetime64 unit and instants of `proleptic_gregorian`. A run finds the conversion of its unit once, and then checks each number
 // or instant before it converts any. A reader may rely on specs/Numbers.antt and on the theorems of proofs/Theorems.antt.
+#![tactic(auto)]
+
 ghost use Rattle.std.specs.Prelude.{◌≡◌, true, false, ◌*◌, ◌≤◌, pos};
 ghost use Rattle.axis_types.specs.Reading.{is_none, is_read, instant_of, refusal_of, offset_of, offset_refusal};
 ghost use Rattle.datetime64_type.specs.Units.{unit_row_of};
@@ -20,14 +22,14 @@ use refusal::Refusal;
 use step::Part;
 
 // How the numbers of a unit become instants, or instants its numbers: by steps of the calendar, or by a fixed ratio.
-#[derive(Drop)]
+#[derive(Clone, Copy)]
 pub enum Conversion {
     Calendar(Part, Start),
     Fixed(Ratio),
 }
 
 // Whether a number is read, or an instant written, and why not.
-#[derive(Drop)]
+#[derive(Clone, Copy)]
 pub enum NumberCheck {
     Good,
     Refused(Refusal),

@@ -10,21 +10,21 @@ use grammar::same_bytes;
 use word_table::packed_of;
 
 // The type that an identifier names.
-#[derive(Drop)]
+#[derive(Clone, Copy)]
 pub enum TypeAnswer {
     Is(Datetime64Type),
     IllFormed,
 }
 
 // The byte order that the first four bytes of an identifier name.
-#[derive(Drop)]
+#[derive(Clone, Copy)]
 pub enum OrderNamed {
     Is(ByteOrder),
     Unknown,
 }
 
 // The unit that a word names.
-#[derive(Drop)]
+#[derive(Clone, Copy)]
 pub enum UnitNamed {
     Is(UnitCode),
     Unknown,

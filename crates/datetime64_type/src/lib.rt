@@ -1,5 +1,7 @@
 // The type of a datetime64 array, as its identifier names it: the byte order of its records and one of thirteen units.
 // A reader may rely on specs/Units.antt and specs/Identifier.antt.
+#![tactic(auto)]
+
 ghost use Rattle.std.specs.Prelude.{◌≡◌};
 ghost use Rattle.datetime64_type.specs.Units.{unit_row_of};
 
@@ -7,13 +9,13 @@ use step::Part;
 
 pub mod identifier;
 
-#[derive(Drop)]
+#[derive(Clone, Copy)]
 pub enum ByteOrder {
     Little,
     Big,
 }
 
-#[derive(Drop)]
+#[derive(Clone, Copy)]
 pub enum UnitCode {
     Year,
     Month,
@@ -30,14 +32,14 @@ pub enum UnitCode {
     Attosecond,
 }
 
-#[derive(Drop)]
+#[derive(Clone, Copy)]
 pub struct Datetime64Type {
     pub order: ByteOrder,
     pub unit: UnitCode,
 }
 
 // What one of a unit is: a calendar step, so many microseconds, or a microsecond divided by so many.
-#[derive(Drop)]
+#[derive(Clone, Copy)]
 pub enum UnitRow {
     Steps(Part),
     Multiple(u64),

@@ -1,6 +1,8 @@
 // Doubles by their exact value, with no floating-point arithmetic: on a fixed axis the displacement in microseconds that is nearest to a
 // number of periods, a tie to the even one, and whether nothing was rounded; as a whole offset in module `whole`. A reader may rely on
 // specs/Displacement.antt, and on the theorems about the nearest count in proofs/Distance.antt and proofs/Order.antt.
+#![tactic(auto)]
+
 ghost use Rattle.std.specs.Prelude.{◌≡◌, not, ◌+◌, ◌*◌, ◌^◌, ◌≤◌, ◌<◌, T};
 ghost use Rattle.std.specs.Float.Ieee.{is_nan};
 ghost use Rattle.std.specs.Int.Signed.{mag};
@@ -13,14 +15,14 @@ use rounding::Rounded;
 pub mod whole;
 
 // A displacement in microseconds, and whether nothing was rounded.
-#[derive(Drop)]
+#[derive(Clone, Copy)]
 pub struct Displacement {
     pub count: i64,
     pub exact: bool,
 }
 
 // The displacement of a double, or that it is 2^60 microseconds or more, or that the double is no finite number.
-#[derive(Drop)]
+#[derive(Clone, Copy)]
 pub enum DisplacementAnswer {
     Is(Displacement),
     Large,
@@ -28,7 +30,7 @@ pub enum DisplacementAnswer {
 }
 
 // The length of a period in microseconds, and the same as factor / 2^shift, with a factor from 2^62 on.
-#[derive(Drop)]
+#[derive(Clone, Copy)]
 pub struct Scale {
     pub micros: u64,
     pub factor: u64,
@@ -48,7 +50,7 @@ pub fn scale_of(micros: u64) -> Scale
 }
 
 // The fields of a double's bit pattern: the sign, the exponent's field, and the digits below the leading one.
-#[derive(Drop)]
+#[derive(Clone, Copy)]
 pub struct Pattern {
     pub negative: bool,
     pub field: u64,

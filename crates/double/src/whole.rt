@@ -7,14 +7,14 @@ ghost use Rattle.double.specs.Fields.{WholeSize};
 use refusal::Refusal;
 
 // The whole number, or why there is none.
-#[derive(Drop)]
+#[derive(Clone, Copy)]
 pub enum Whole {
     Is(i64),
     Refused(Refusal),
 }
 
 // The size of a finite double: a whole number, a fraction, or a whole number of 2^64 or more.
-#[derive(Drop)]
+#[derive(Clone, Copy)]
 pub enum Size {
     Of(u64),
     Fraction,

@@ -1,5 +1,7 @@
 // Offsets on an axis of fixed mode, whose reference lies in the range: a whole offset or a double read as an instant, and an instant written
 // as a whole offset. A reader may rely on specs/Fixed.antt and on the theorems of proofs/Demands.antt.
+#![tactic(auto)]
+
 ghost use Rattle.std.specs.Prelude.{◌≡◌, true, ◌+◌, ◌-◌, ◌*◌, ◌≤◌, ◌<◌, ◌^◌, nat_abs};
 ghost use Rattle.std.specs.Int.Signed.{mag};
 ghost use Rattle.axis_types.specs.Lengths.{length_of};
@@ -16,7 +18,7 @@ use double::{DisplacementAnswer, Scale};
 use refusal::Refusal;
 
 // The instant of a double, and whether it is the exact time.
-#[derive(Drop)]
+#[derive(Clone, Copy)]
 pub struct NearestTime {
     pub instant: i64,
     pub exact: bool,

@@ -2,6 +2,8 @@
 // that every text rule scans with. A scanner function takes a text and a place in it, which may lie past its
 // end. It answers the value that stands there with the place after it, or that nothing does, and promises that
 // the grammar's reader finds the same: an equation with `scan` of the rule.
+#![tactic(auto)]
+
 ghost use Rattle.std.specs.Prelude.{◌≡◌, true, ◌+◌, ◌≤◌, ◌<◌, ◌^◌, length, drop};
 ghost use Rattle.grammar.specs.Grammar.{starts, every};
 ghost use Rattle.grammar.specs.Reader.{front, scan};
@@ -9,14 +11,14 @@ ghost use Rattle.grammar.specs.Rules.{span, any_of, digit, decimal, number, two,
 ghost use Rattle.grammar.specs.Answers.{number_in, end_in};
 
 // A number and the place after it.
-#[derive(Drop)]
+#[derive(Clone, Copy)]
 pub enum NumberAt {
     Found(u32, usize),
     Nothing,
 }
 
 // The place after a text that has no value of its own.
-#[derive(Drop)]
+#[derive(Clone, Copy)]
 pub enum EndAt {
     Found(usize),
     Nothing,

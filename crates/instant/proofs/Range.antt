@@ -1,6 +1,6 @@
 -- The range: the years -9999 to 9999 of a calendar are the instants of an interval, which lies within five million days of 1970.
 use mathlib.Core.Path.{◌≡◌, refl, sym, ap, ◌∙◌, subst}
-use mathlib.Core.Bool.{Bool, true, false, not, ◌&&◌, and_true}
+use mathlib.Core.Bool.{Bool, true, false, not, ◌&&◌, and-true}
 use Prim.Native.Nat.{ℕ, suc, ◌+◌, ◌-◌, ◌*◌, ◌/◌, ◌≤◌, ◌<◌}
 use native.Mathlib.Omega.{arith}
 use lib.Dec.{leb}
@@ -69,7 +69,7 @@ module _ (c : Calendar) (t : ℤ) where
   not_early h = le_trans (first_instant c) lo t (first_le c) (le_z_not lo t ∙ ap not h)
 
   pub early : lt_z t lo ≡ true → in_range c t ≡ le_z (first_instant c) t
-  early h = range c t ∙ (ap (λ (b : Bool). le_z (first_instant c) t && b) (not_late (lt_trans t lo hi h refl)) ∙ and_true (le_z (first_instant c) t))
+  early h = range c t ∙ (ap (λ (b : Bool). le_z (first_instant c) t && b) (not_late (lt_trans t lo hi h refl)) ∙ and-true (le_z (first_instant c) t))
 
   pub middle : lt_z t lo ≡ false → lt_z t hi ≡ true → in_range c t ≡ true
   middle h g = range c t ∙ both (le_z (first_instant c) t) (le_z t (last_instant c)) (not_early h) (not_late g)

@@ -1,5 +1,7 @@
 // Instants: counts of microseconds since the start of 1970 in a calendar, their range, and their fields. `fields_of` and `instant_of` are
 // total, and each undoes the other.
+#![tactic(auto)]
+
 ghost use Rattle.std.specs.Prelude.{◌≡◌, ◌<◌};
 ghost use Rattle.std.proofs.Math.IntN.{sub_ℕ};
 ghost use Rattle.std.specs.Int.Signed.{mag};
@@ -12,7 +14,7 @@ use calendar::{Calendar, Date, DateAnswer, FoundDay};
 use refusal::Refusal;
 
 #[repr(C)]
-#[derive(Drop)]
+#[derive(Clone, Copy)]
 pub struct Fields {
     pub year: i64,
     pub month: u32,
@@ -24,14 +26,14 @@ pub struct Fields {
 }
 
 // The fields of an instant.
-#[derive(Drop)]
+#[derive(Clone, Copy)]
 pub enum FieldsAnswer {
     Is(Fields),
     Refused(Refusal),
 }
 
 // The instant of fields.
-#[derive(Drop)]
+#[derive(Clone, Copy)]
 pub enum InstantAnswer {
     Is(i64),
     Refused(Refusal),
@@ -48,7 +50,7 @@ pub fn instant_at(day: i64, time: u64) -> i64
 }
 
 // The day of an instant, biased by 2^63, and its time of day.
-#[derive(Drop)]
+#[derive(Clone, Copy)]
 pub struct DayTime {
     pub day: u64,
     pub time: u64,
@@ -162,7 +164,7 @@ pub fn clock_time(f: Fields) -> u64
 }
 
 // The instant of fields, or that there is none.
-#[derive(Drop)]
+#[derive(Clone, Copy)]
 pub enum FoundInstant {
     Is(i64),
     Nothing,

@@ -1,4 +1,6 @@
 // Numbers of 64 bits as eight bytes, the least significant first.
+#![tactic(auto)]
+
 ghost use Rattle.std.specs.Prelude.{◌≡◌, [], ◌∷◌, ◌<◌, length, get_or};
 ghost use Rattle.int64_bytes.specs.LittleEndian.{little_endian, little_bytes};
 

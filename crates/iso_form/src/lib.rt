@@ -1,5 +1,7 @@
 // The one form of ISO text: the 27 bytes of a date in UTC, or 28 with a minus (specs/Form.antt), written into
 // lent room. proofs/Back.antt shows that the date rule reads such a text back as the date that was written.
+#![tactic(auto)]
+
 ghost use Rattle.std.specs.Prelude.{◌≡◌, ◌∷◌};
 ghost use Rattle.iso_form.specs.Form.{body, iso_text, length_answer, over};
 ghost use Rattle.iso_form.specs.Closed.{lead};
@@ -8,7 +10,7 @@ use date_text::WrittenDate;
 use refusal::Refusal;
 
 // The length of what was written.
-#[derive(Drop)]
+#[derive(Clone, Copy)]
 pub enum LengthAnswer {
     Is(usize),
     Refused(Refusal),

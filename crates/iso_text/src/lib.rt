@@ -1,5 +1,7 @@
 // ISO text: an instant read from a calendar name, a cutover and a text, and an instant written into lent room (specs/Iso.antt). `read_iso` and
 // `write_iso` are total. proofs/RoundTrip.antt shows that reading what was written gives the instant, so that no two instants of a calendar share a text.
+#![tactic(auto)]
+
 ghost use Rattle.std.specs.Prelude.{◌≡◌, true, nat_abs};
 ghost use Rattle.calendar.specs.Calendar.{in_years};
 ghost use Rattle.iso_text.specs.Iso.{read_iso, utc_date, write_iso, room_iso};

@@ -1,5 +1,7 @@
 // A lent list of leap seconds, and UTC's days and seconds by it (specs/Leaps.antt, specs/Utc.antt). A list is tested by `is_good`; the other
 // functions ask for one that is.
+#![tactic(auto)]
+
 ghost use Rattle.std.specs.Prelude.{◌≡◌, true, ◌+◌, ◌-◌, ◌*◌, ◌/◌, ◌%◌, ◌≤◌, ◌<◌, ◌^◌, pos, length};
 ghost use Rattle.leap_seconds.specs.Leaps.{word_at, is_good, leaps, leaps_from, rises_from};
 ghost use Rattle.leap_seconds.specs.Utc.{is_leap_day, moment, moment_at};
@@ -97,7 +99,7 @@ pub fn is_leap_day(s: &[u8], day: u64) -> bool
 }
 
 // A second of a day: days are counted from 1970-01-01, and second 86400 is 23:59:60.
-#[derive(Drop)]
+#[derive(Clone, Copy)]
 pub struct Moment {
     pub day: u64,
     pub second: u64,

@@ -2,6 +2,8 @@
 // refusal. What a line prints is `listing_line::answer`, whose promise says it to the byte; here the lines are cut from the input and the answers
 // gathered into larger writes. What a read has brought is answered and written out before the next read, so that whoever waits for an
 // answer gets it. A read or a write that fails ends the program, which tells the system's reason on standard error.
+#![tactic(auto)]
+
 ghost use Rattle.std.specs.Prelude.{◌≡◌, ◌≤◌, length};
 
 mod input;

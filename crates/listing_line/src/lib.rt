@@ -1,5 +1,7 @@
 // One line of the listing program (specs/Line.antt): what a line of input answers, and the bytes that are printed for it. `read_line` and
 // `answer` are total. A reader may rely on the theorems of proofs/Theorems.antt.
+#![tactic(auto)]
+
 ghost use Rattle.std.specs.Prelude.{◌≡◌, true, ◌∷◌, ◌++◌, ◌+◌, ◌≤◌, ◌<◌, length};
 ghost use Rattle.std.proofs.Math.Option.{some};
 ghost use Rattle.instant.specs.Instant.{in_range};
@@ -18,14 +20,14 @@ use offset_text::OffsetText;
 use refusal::Refusal;
 
 // What a line answers: an instant of a calendar and whether it is exact, or a refusal.
-#[derive(Drop)]
+#[derive(Clone, Copy)]
 pub enum LineAnswer {
     Shows(Calendar, i64, bool),
     Refused(Refusal),
 }
 
 // Where the bars of a line stand.
-#[derive(Drop)]
+#[derive(Clone, Copy)]
 pub enum Bars {
     Two(usize, usize),
     Other,

@@ -1,6 +1,8 @@
 // What comes before the grammar of a text that is read in the calendar of a name with a cutover (specs/Texts.antt): the text's length, then the
 // name, then the cutover.
 // `text_calendar` is total.
+#![tactic(auto)]
+
 ghost use Rattle.std.specs.Prelude.{◌≡◌};
 ghost use Rattle.named_text.specs.Texts.{text_calendar};
 

@@ -1,5 +1,7 @@
 // The text of an offset in a line of the listing program: a whole number in decimal digits, or the bits of a double in hexadecimal ones
 // (specs/OffsetRule.antt). `read_offset` is total.
+#![tactic(auto)]
+
 ghost use Rattle.std.specs.Prelude.{◌≡◌, ◌^◌, ◌≤◌, length};
 ghost use Rattle.std.specs.Float.{binary64};
 ghost use Rattle.std.specs.Float.Ieee.{of_bits};
@@ -12,14 +14,14 @@ use axis_types::Offset;
 use grammar::next_in;
 
 // The offset that was read.
-#[derive(Drop)]
+#[derive(Clone, Copy)]
 pub enum OffsetText {
     Read(Offset),
     IllFormed,
 }
 
 // The number that digits write.
-#[derive(Drop)]
+#[derive(Clone, Copy)]
 pub enum Number {
     Is(u64),
     Nothing,

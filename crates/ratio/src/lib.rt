@@ -1,11 +1,13 @@
 // The multiples of one step exchanged for those of another: m * from for m * to, for each m from -below to above. Both lie in 64 bits.
 // A run divides nothing: the place of a number among the multiples is found by the step's reciprocal.
 // A reader may rely on specs/Multiples.antt.
+#![tactic(auto)]
+
 ghost use Rattle.std.specs.Prelude.{◌≡◌, ℕ, ◌+◌, ◌-◌, ◌*◌, ◌≤◌, true, false};
 ghost use Rattle.signed.specs.Bias.{biased};
 ghost use Rattle.ratio.specs.Multiples.{Steps, Place, reciprocal_of, IsRatio, Good, IsMultiple, AroundZero, Between, IsBounds};
 
-#[derive(Drop)]
+#[derive(Clone, Copy)]
 pub struct Ratio {
     pub from: u64,
     pub to: u64,
@@ -88,7 +90,7 @@ pub fn exchanged(r: Ratio, x: i64) -> i64
 }
 
 // Two numbers, with their bias of 2^63.
-#[derive(Drop)]
+#[derive(Clone, Copy)]
 pub struct Bounds {
     pub low: u64,
     pub high: u64,

@@ -1,9 +1,11 @@
 // The refusals of document 01, "Numbers returned", and of document 02: why a call gives no result.
 // A reader may rely on `number`, which is the table's number.
+#![tactic(auto)]
+
 ghost use Rattle.std.specs.Prelude.{◌≡◌};
 ghost use Rattle.refusal.specs.Number.{number_of};
 
-#[derive(Drop)]
+#[derive(Clone, Copy)]
 pub enum Refusal {
     TextTooLong,
     UnknownCalendar,

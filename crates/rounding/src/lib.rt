@@ -1,18 +1,20 @@
 // Products past 64 bits and their quotients by powers of two, rounded to the nearest whole number, a tie to the even one.
 // A reader may rely on `closest a d` of the library lib.Ieee.Nearest: every rounding here is an equation with it.
+#![tactic(auto)]
+
 ghost use Rattle.std.specs.Prelude.{◌≡◌, ◌+◌, ◌*◌, ◌/◌, ◌^◌, ◌≤◌, ◌<◌};
 ghost use Rattle.rounding.specs.Rounding.{RoundedTo};
 ghost use Rattle.rounding.specs.Steps.{sticky_of, increment_of};
 
 // A rounded quotient, and whether nothing was left over.
-#[derive(Drop)]
+#[derive(Clone, Copy)]
 pub struct Rounded {
     pub count: u64,
     pub exact: bool,
 }
 
 // The number high * 2^64 + low.
-#[derive(Drop)]
+#[derive(Clone, Copy)]
 pub struct Wide {
     pub high: u64,
     pub low: u64,

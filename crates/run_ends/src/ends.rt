@@ -8,21 +8,21 @@ ghost use Rattle.run_ends.specs.Ends.{lesser, greater, double_ends, whole_ends, 
 use double::whole::Whole;
 
 // The ends of a run of doubles and zero; a NaN lies in no order.
-#[derive(Drop)]
+#[derive(Clone, Copy)]
 pub enum DoubleEnds {
     Between { least: f64, greatest: f64 },
     NotANumber,
 }
 
 // The ends of a run of whole offsets and zero.
-#[derive(Drop)]
+#[derive(Clone, Copy)]
 pub struct WholeEnds {
     pub least: i64,
     pub greatest: i64,
 }
 
 // The ends of a run of doubles as whole offsets, and zero; a double may be none.
-#[derive(Drop)]
+#[derive(Clone, Copy)]
 pub enum WholeDoubleEnds {
     Between(WholeEnds),
     NotWhole,

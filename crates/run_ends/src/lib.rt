@@ -1,5 +1,7 @@
 // A run checked by its ends: where its least and its greatest offset are read, every offset between them is. Where the ends do not show it,
 // nothing is said. A reader may rely on specs/Ends.antt and on the theorems of proofs/Within.antt and proofs/Between.antt.
+#![tactic(auto)]
+
 ghost use Rattle.std.specs.Prelude.{◌≡◌, true, ◌&&◌};
 ghost use Rattle.axis_types.specs.declared.Mode.{Mode};
 ghost use Rattle.axis_types.specs.Reading.{is_read};

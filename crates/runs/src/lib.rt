@@ -1,5 +1,7 @@
 // Runs: offsets of one axis that are lent together, and read into lent room for instants, all or none: what checks comes before what writes.
 // A reader may rely on specs/Run.antt.
+#![tactic(auto)]
+
 ghost use Rattle.std.specs.Prelude.{◌≡◌};
 ghost use Rattle.axis.specs.Axis.{read_double_on, read_whole_on, axis_check};
 ghost use Rattle.runs.specs.Run.{check_answer, run_answer, run_written};
@@ -12,7 +14,7 @@ pub mod element;
 pub mod writes;
 
 // Whether every offset of a run is read, or the first refusal and its place, counted from 0.
-#[derive(Drop)]
+#[derive(Clone, Copy)]
 pub enum Check {
     AllRead,
     Refused { refusal: Refusal, place: usize },
@@ -20,7 +22,7 @@ pub enum Check {
 
 // The answer of a run: 0, how many offsets there are and how many of them are not exact; or the number of a refusal and its place.
 #[repr(C)]
-#[derive(Drop)]
+#[derive(Clone, Copy)]
 pub struct RunAnswer {
     pub number: u32,
     pub place: usize,

@@ -1,5 +1,7 @@
 // The border between signed and unsigned numbers. Arithmetic on dates is unsigned: a signed number goes there as the natural number
 // n + 2^63, and comes back by `unbiased`. Both directions are total.
+#![tactic(auto)]
+
 ghost use Rattle.std.specs.Prelude.{◌≡◌, ◌<◌, ◌^◌};
 ghost use Rattle.signed.specs.Bias.{biased, unbiased};
 ghost use Rattle.signed.specs.Sign.{with_sign};

@@ -1,6 +1,8 @@
 // Steps by months and years in a calendar, for calendar mode: the day that a number of steps leads to from a date, and the number of
 // steps from one date to another. Months and years are one step with a parameter. The dates of a caller exist in the years -9999 to 9999,
 // and it hands on the year of each, so that a run finds that of its reference once.
+#![tactic(auto)]
+
 ghost use Rattle.std.specs.Prelude.{◌≡◌, true, cond, ◌+◌, ◌-◌, ◌*◌, ◌<◌, ◌≤◌, eqb};
 ghost use Rattle.std.proofs.Math.IntN.{sub_ℕ};
 ghost use Rattle.calendar.specs.Calendar.{has_year_zero, exists, date_of, in_years};
@@ -14,21 +16,21 @@ use calendar::{Calendar, Date, YearCount};
 use refusal::Refusal;
 
 // What a step moves: the month number or the year number of a date.
-#[derive(Drop)]
+#[derive(Clone, Copy)]
 pub enum Part {
     Month,
     Year,
 }
 
 // The day number that steps lead to, and the days that it was stepped back to a day that exists; or a refusal.
-#[derive(Drop)]
+#[derive(Clone, Copy)]
 pub enum DayReached {
     Is(i64, u32),
     Refused(Refusal),
 }
 
 // The number of steps from one date to another, or that no number of steps leads there.
-#[derive(Drop)]
+#[derive(Clone, Copy)]
 pub enum StepAnswer {
     Is(i64),
     Nothing,
@@ -87,7 +89,7 @@ fn first_year(c: Calendar) -> u64
 // ---- days
 
 // A day number, and the days that it was stepped back.
-#[derive(Drop)]
+#[derive(Clone, Copy)]
 pub struct DayInMonth {
     pub number: i64,
     pub days_back: u32,

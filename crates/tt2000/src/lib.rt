@@ -1,5 +1,7 @@
 // TT2000, nanoseconds from 2000-01-01T12:00:00 in Terrestrial Time, read as fields of UTC and written from them, by a lent list of leap seconds
 // (specs/Tt2000.antt). Both calls are total, and each undoes the other.
+#![tactic(auto)]
+
 ghost use Rattle.std.specs.Prelude.{◌≡◌, true, false, ◌&&◌, ◌≤◌, ◌<◌, pos};
 ghost use Rattle.leap_seconds.specs.Leaps.{is_good, leaps};
 ghost use Rattle.calendar.specs.Calendar.{in_years, exists, date_of};
@@ -13,7 +15,7 @@ use leap_seconds::Moment;
 use refusal::Refusal;
 
 #[repr(C)]
-#[derive(Drop)]
+#[derive(Clone, Copy)]
 pub struct UtcFields {
     pub year: i64,
     pub month: u32,
@@ -25,14 +27,14 @@ pub struct UtcFields {
 }
 
 // The fields of a TT2000.
-#[derive(Drop)]
+#[derive(Clone, Copy)]
 pub enum UtcAnswer {
     Is(UtcFields),
     Refused(Refusal),
 }
 
 // The TT2000 of fields.
-#[derive(Drop)]
+#[derive(Clone, Copy)]
 pub enum Tt2000Answer {
     Is(i64),
     Refused(Refusal),

@@ -1,11 +1,13 @@
 // A units text that arrives in fragments: the state that a host lends to each call, and by value what a call makes of it
 // (specs/Fragments.antt). All functions that are `pub` are total.
+#![tactic(auto)]
+
 ghost use Rattle.std.specs.Prelude.{◌≡◌, ◌+◌, ◌≤◌};
 ghost use Rattle.units_fragments.specs.Fragments.{fresh_state, is_open, fitting, count_of, with_fragment, after_fragment, after_end};
 
 // The text so far: `count` is the number of its bytes, 129 once there are more than 128, and `ended` is 0 until the end.
 #[repr(C)]
-#[derive(Drop)]
+#[derive(Clone, Copy)]
 pub struct UnitsState {
     pub count: u32,
     pub ended: u32,

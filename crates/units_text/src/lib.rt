@@ -1,6 +1,8 @@
 // The units text of document 01: period words, `calendar`, `since` and a date (specs/UnitsRule.antt), and the
 // functions that scan a text for it. `read_units` gives a whole text the value with which the rule derives it,
 // or refuses it. The reference is the date as it is written: no calendar is known here.
+#![tactic(auto)]
+
 ghost use Rattle.std.specs.Prelude.{◌≡◌, true, ◌≤◌, length, drop};
 ghost use Rattle.grammar.specs.Grammar.{every};
 ghost use Rattle.grammar.specs.Reader.{scan, read};
@@ -17,7 +19,7 @@ use grammar::{EndAt, letter_at, run_end, same_bytes, starts_in, word_at};
 use word_table::packed_of;
 
 // What a units text says.
-#[derive(Drop)]
+#[derive(Clone, Copy)]
 pub struct Units {
     pub mode: Mode,
     pub period: Period,
@@ -25,27 +27,27 @@ pub struct Units {
 }
 
 // What a word means.
-#[derive(Drop)]
+#[derive(Clone, Copy)]
 pub enum Meaning {
     Is(Period),
     Nothing,
 }
 
 // What each function finds at a place of a text: its value and the place after it, or nothing.
-#[derive(Drop)]
+#[derive(Clone, Copy)]
 pub enum PeriodAt {
     Found(Period, usize),
     Nothing,
 }
 
-#[derive(Drop)]
+#[derive(Clone, Copy)]
 pub enum ModeAt {
     Found(Mode, usize),
     Nothing,
 }
 
 // The answer to a whole text.
-#[derive(Drop)]
+#[derive(Clone, Copy)]
 pub enum UnitsAnswer {
     Read(Units),
     Refused,

@@ -8,21 +8,21 @@ use instant::{Fields, FieldsAnswer};
 use refusal::Refusal;
 
 #[repr(C)]
-#[derive(Drop)]
+#[derive(Clone, Copy)]
 pub struct UppinaloDateAnswer {
     pub number: u32,
     pub date: Date,
 }
 
 #[repr(C)]
-#[derive(Drop)]
+#[derive(Clone, Copy)]
 pub struct UppinaloDayAnswer {
     pub number: u32,
     pub day: i64,
 }
 
 #[repr(C)]
-#[derive(Drop)]
+#[derive(Clone, Copy)]
 pub struct UppinaloFieldsAnswer {
     pub number: u32,
     pub fields: Fields,

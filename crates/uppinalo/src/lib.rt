@@ -1,5 +1,7 @@
 // The C boundary: the calls of include/uppinalo.h, thin, each with its complete promise. specs/Demands.antt states the three demands
 // of these promises, and proofs/Demands.antt proves them.
+#![tactic(auto)]
+
 pub mod datetime64;
 pub mod days;
 pub mod fragments;

@@ -9,7 +9,7 @@ use instant::Fields;
 use refusal::Refusal;
 
 #[repr(C)]
-#[derive(Drop)]
+#[derive(Clone, Copy)]
 pub struct UppinaloOffsetAnswer {
     pub number: u32,
     pub offset: i64,

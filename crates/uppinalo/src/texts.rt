@@ -11,7 +11,7 @@ use iso_form::LengthAnswer;
 use refusal::Refusal;
 
 #[repr(C)]
-#[derive(Drop)]
+#[derive(Clone, Copy)]
 pub struct UppinaloReading {
     pub number: u32,
     pub instant: i64,
@@ -20,14 +20,14 @@ pub struct UppinaloReading {
 }
 
 #[repr(C)]
-#[derive(Drop)]
+#[derive(Clone, Copy)]
 pub struct UppinaloLengthAnswer {
     pub number: u32,
     pub length: usize,
 }
 
 #[repr(C)]
-#[derive(Drop)]
+#[derive(Clone, Copy)]
 pub struct UppinaloAxisAnswer {
     pub number: u32,
     pub axis: UppinaloAxis,

@@ -6,14 +6,14 @@ use refusal::Refusal;
 use tt2000::{Tt2000Answer, UtcAnswer, UtcFields};
 
 #[repr(C)]
-#[derive(Drop)]
+#[derive(Clone, Copy)]
 pub struct UppinaloUtcFieldsAnswer {
     pub number: u32,
     pub fields: UtcFields,
 }
 
 #[repr(C)]
-#[derive(Drop)]
+#[derive(Clone, Copy)]
 pub struct UppinaloTt2000Answer {
     pub number: u32,
     pub tt2000: i64,

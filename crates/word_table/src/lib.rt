@@ -1,5 +1,7 @@
 // Tables of words (specs/Table.antt). A word of at most eight bytes is looked up as one number, with two
 // hexadecimal digits for each byte, by a `match`; proofs/Words.antt has the laws for such a function.
+#![tactic(auto)]
+
 ghost use Rattle.std.specs.Prelude.{◌≡◌, ◌≤◌, length};
 ghost use Rattle.word_table.specs.Packed.{packed};
 

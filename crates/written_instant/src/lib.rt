@@ -1,4 +1,6 @@
 // The instant of a date as it is written, in a calendar: local date and time, less the zone (specs/Instants.antt).
+#![tactic(auto)]
+
 ghost use Rattle.std.specs.Prelude.{◌≡◌, true};
 ghost use Rattle.instant.specs.Instant.{in_range};
 ghost use Rattle.instant.specs.declared.InstantAnswer.{InstantAnswer};

@@ -2,6 +2,8 @@
 // output, which hosts/vectors.py finds by another way. A line for each century: the calendar, the line's first year, the
 // day number of its January 1st, and one character for the length of each year.
 // Years are counted from -10000 here, and a day number is held as its sum with 2^63.
+#![tactic(auto)]
+
 ghost use Rattle.std.specs.Prelude.{◌+◌, ◌≤◌, ◌<◌, length};
 
 use calendar::{Calendar, Date, DayAnswer};

@@ -1,6 +1,6 @@
 -- `tt2000::is_utc_time` meets its contract.
 use mathlib.Core.Path.{sym, ap, ◌∙◌}
-use mathlib.Core.Bool.{◌&&◌, and-false, and_true}
+use mathlib.Core.Bool.{◌&&◌, and-false, and-true}
 use lib.Dec.{ltb}
 use borrow.Author.Rules.{rules}
 use borrow.Author.Tests.{lt-ltb, le-ltb}
@@ -34,7 +34,7 @@ returns_4 c =
     let a = e1.before.before.before.args in
     let f = a.f in
     c.is-second.ensures
-    ∙ rw (lt-ltb f.hour 24 e1.if1.false, lt-ltb f.minute 60 e2.if2.false, lt-ltb f.nanosecond 1000000000 e3.if3.false) (sym (and_true (is_second (leaps a.s.now) f)))
+    ∙ rw (lt-ltb f.hour 24 e1.if1.false, lt-ltb f.minute 60 e2.if2.false, lt-ltb f.nanosecond 1000000000 e3.if3.false) (sym (and-true (is_second (leaps a.s.now) f)))
 
 pub is_utc_time_spec : {M : Type 1} → statement M
 is_utc_time_spec = tie.close (tie.spec returns returns_2 returns_3 (λ c κs. search rules) returns_4)

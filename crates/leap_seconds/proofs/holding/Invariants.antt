@@ -1,0 +1,16 @@
+-- `leap_seconds::holding` meets its contract. The invariant: the record after place i is later than the day.
+use mathlib.Core.Path.{◌≡◌, ap}
+use mathlib.Core.List.{List}
+use Prim.Native.Nat.{ℕ, suc, ◌-◌, ◌/◌, ◌<◌, ◌≤◌}
+use native.Mathlib.Omega.{arith}
+use native.Mathlib.Decide.{dec_le}
+use lib.ListN.{length}
+use Rattle.leap_seconds.specs.Closed.{day_at}
+use Rattle.leap_seconds.proofs.Listed.{Listed, listed}
+use Rattle.leap_seconds.proofs.holding.Given as goal
+
+abbrev pub invariant-loop-i : goal.invariant-loop-i
+invariant-loop-i l = (l.i < length l.s / 16) × (suc l.i < length l.s / 16 → l.day < day_at l.s (suc l.i))
+
+abbrev pub decreases-loop-i : goal.decreases-loop-i
+decreases-loop-i l = l.i

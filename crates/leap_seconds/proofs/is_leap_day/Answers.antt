@@ -1,0 +1,35 @@
+-- `leap_seconds::is_leap_day` meets its contract.
+use mathlib.Core.Path.{ap, ◌∙◌, subst}
+use Prim.Native.Nat.{ℕ}
+use native.Mathlib.Omega.{arith}
+use lib.Dec.{eqb}
+use native.Mathlib.Numerals.{add-one}
+use borrow.Author.Rules.{rules}
+use Rattle.leap_seconds.specs.Closed.{HoldsOn}
+use Rattle.leap_seconds.proofs.Listed.{listed, listed_small}
+use Rattle.leap_seconds.proofs.OnDays.{after_first, not_listed, leap_test}
+use Rattle.leap_seconds.proofs.is_leap_day.Goals as goal
+
+pub returns-then-day-lt730 : goal.returns-then-day-lt730
+returns-then-day-lt730 c =
+    let b = c in
+    let s = b.args.s.now in
+    let l = listed s b.requires in
+    not_listed s l b.args.day (λ k f g e. omega (arith, after_first s l k f g))
+
+pub returns-then-day-ge9223372036854775808 : goal.returns-then-day-ge9223372036854775808
+returns-then-day-ge9223372036854775808 c =
+    let b = c in
+    let s = b.args.s.now in
+    let l = listed s b.requires in
+    not_listed s l b.args.day (λ k f g e. omega (arith, listed_small s l k g))
+
+pub returns : goal.returns
+returns c =
+    let h = c in
+    let b = c in
+    let s = b.args.s.now in
+    let d = b.args.day in
+    let j = h.holding-i.result in
+    (λ i. eqb (c.word_at.ensures i) (add-one d i))
+    ∙ leap_test s (listed s b.requires) d j h.if-day-lt730.false (subst (λ (n : ℕ). HoldsOn s n j) (add-one d) h.holding-i.ensures)
