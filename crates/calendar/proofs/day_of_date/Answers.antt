@@ -1,5 +1,6 @@
 -- `calendar::day_of_date` meets its contract.
 use mathlib.Core.Path.{ap, ◌∙◌}
+use mathlib.Core.Bool.{true}
 use lib.IntN.{ℤ}
 use mir.Syntax.{w64}
 use mir.Val.{SFits}
