@@ -20,9 +20,7 @@ place_of-requires c = omega (arith, c.days_used.ensures, (used c.in-Standard.k).
 
 pub returns-in-Standard : goal.returns-in-Standard
 returns-in-Standard c =
-    let d = c in
-    let k = d.c-1.given in
-    let n = days_used k.0.0 in
+    let n = days_used c.in-Standard.k in
     c.place_of.ensures
-    ∙ (ap (λ (i : ℕ). place_of Rule.Gregorian (4230526 + i)) d.days_used.ensures
-    ∙ (place_at_lem Rule.Gregorian (4230526 + n) ∙ (sym (from_at n) ∙ ap (λ (x : Calendar). (counts x).from) (sym k.1))))
+    ∙ (ap (λ (i : ℕ). place_of Rule.Gregorian (4230526 + i)) c.days_used.ensures
+    ∙ (place_at_lem Rule.Gregorian (4230526 + n) ∙ (sym (from_at n) ∙ ap (λ (x : Calendar). (counts x).from) (sym c.in-Standard.is))))
