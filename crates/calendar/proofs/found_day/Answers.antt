@@ -30,16 +30,6 @@ year_is y =
 in_years_is : (y : After-in_years) {t : Bool} → y.in_years.result ≡ t → in_years y.args.x.year ≡ t
 in_years_is y h = ap in_years (sym (year_is y)) ∙ (sym y.in_years.ensures ∙ h)
 
-pub returns-then-not-in_years : goal.returns-then-not-in_years
-returns-then-not-in_years c =
-    let a = c.args in
-    left_out (in_years a.x.year) (exists a.c a.x) (in_years_is (goal.at.returns-then-not-in_years c).After-in_years c.if-not-in_years.true)
-
-pub year_count-requires : goal.year_count-requires
-year_count-requires c =
-    let y = (goal.at.year_count-requires c).After-in_years in
-    year_bounds c.args.c c.args.x c.biased-k.result (year_is y) (in_years_is y c.if-not-in_years.false)
-
 pub returns-in-Missing : goal.returns-in-Missing
 returns-in-Missing c =
     let a = c.args in
@@ -47,30 +37,3 @@ returns-in-Missing c =
     right_out (in_years a.x.year) (exists a.c a.x)
     (not_there a.c a.x
     (no_count a.c a.x c.biased-k.result (year_is y) (in_years_is y c.if-not-in_years.false) c.has_year_zero.result c.has_year_zero.ensures c.year_count.result c.year_count.ensures c.in-Missing.is))
-
-pub biased_day-n-requires : goal.biased_day-n-requires
-biased_day-n-requires c =
-    let y = (goal.at.biased_day-n-requires c).After-in_years in
-    count_low c.args.c c.args.x c.biased-k.result (year_is y) (in_years_is y c.if-not-in_years.false) c.has_year_zero.result c.has_year_zero.ensures c.year_count.result c.year_count.ensures c.in-Is.y c.in-Is.is
-
-pub returns-then-n-eq0 : goal.returns-then-n-eq0
-returns-then-n-eq0 c =
-    let a = c.args in
-    let y = (goal.at.returns-then-n-eq0 c).After-in_years in
-    let i = in_years_is y c.if-not-in_years.false in
-    let w = date_is a.c a.x c.biased-k.result (year_is y) i c.has_year_zero.result c.has_year_zero.ensures c.year_count.result c.year_count.ensures c.in-Is.y c.in-Is.is in
-    let r = subst (λ (d : Date). DayOrNone a.c d c.biased_day-n.result) w c.biased_day-n.ensures in
-    right_out (in_years a.x.year) (exists a.c a.x) (r.there ∙ ap (ltb 0) c.if-n-eq0.true)
-
-pub returns-in-Is : goal.returns-in-Is
-returns-in-Is c =
-    let a = c.args in
-    let y = (goal.at.returns-in-Is c).After-in_years in
-    let i = in_years_is y c.if-not-in_years.false in
-    let w = date_is a.c a.x c.biased-k.result (year_is y) i c.has_year_zero.result c.has_year_zero.ensures c.year_count.result c.year_count.ensures c.in-Is.y c.in-Is.is in
-    let r = subst (λ (d : Date). DayOrNone a.c d c.biased_day-n.result) w c.biased_day-n.ensures in
-    let n = c.biased_day-n.result in
-    let positive : 0 < n = omega (arith, c.if-n-eq0.false) in (
-      both (in_years a.x.year) (exists a.c a.x) i (r.there ∙ lt-ltb 0 n positive),
-      ap (date_of a.c) (to_z-of_z w64 c.unbiased.result (record { sfits = c.unbiased.type_inv }) ∙ c.unbiased.ensures) ∙ r.dated positive,
-    )
