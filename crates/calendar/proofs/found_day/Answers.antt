@@ -1,21 +1,14 @@
 -- `calendar::found_day` meets its contract.
-use mathlib.Core.Path.{◌≡◌, sym, ap, ◌∙◌, subst}
-use mathlib.Core.Bool.{Bool, true, false}
-use Prim.Native.Nat.{ℕ, ◌<◌}
-use native.Mathlib.Omega.{arith}
-use lib.Dec.{ltb}
+use mathlib.Core.Path.{◌≡◌, sym, ap, ◌∙◌}
+use mathlib.Core.Bool.{Bool}
 use mir.Syntax.{w64}
 use mir.Val.{SFits}
-use mir.ValLaws.{to_z-of_z}
-use borrow.Author.Tests.{lt-ltb}
 use Rattle.signed.specs.Bias.{unbiased}
-use Rattle.signed.proofs.Tests.{both, left_out, right_out}
+use Rattle.signed.proofs.Tests.{right_out}
 use Rattle.signed.proofs.Machine.{crossed}
-use Rattle.calendar.specs.Calendar.{in_years, exists, date_of}
-use Rattle.calendar.specs.Closed.{DayOrNone}
-use Rattle.calendar.specs.declared.Date.{Date}
+use Rattle.calendar.specs.Calendar.{in_years, exists}
 use Rattle.calendar.proofs.Existing.{not_there}
-use Rattle.calendar.proofs.Counted.{year_bounds, no_count, date_is, count_low}
+use Rattle.calendar.proofs.Counted.{no_count}
 use borrow.Author.Rules.{rules}
 use Rattle.calendar.proofs.found_day.Goals as goal
 use Rattle.calendar.proofs.found_day.Goals.{After-in_years}

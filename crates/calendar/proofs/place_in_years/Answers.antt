@@ -6,7 +6,6 @@ use lib.IntN.{ℤ}
 use Rattle.calendar.specs.Closed.{end_day, PlaceOfDay}
 use Rattle.calendar.proofs.Range.{small}
 use Rattle.calendar.proofs.Answering.{years_inside, place_is}
-use borrow.Author.Rules.{rules}
 use Rattle.calendar.proofs.place_in_years.Goals as goal
 use Rattle.calendar.proofs.place_in_years.Goals.{After-origin}
 

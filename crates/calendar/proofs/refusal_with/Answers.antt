@@ -1,16 +1,13 @@
 -- `calendar::refusal_with` meets its contract.
 use mathlib.Core.Path.{◌≡◌, sym, ap, ◌∙◌}
 use mathlib.Core.Bool.{Bool, true, false, ◌&&◌}
-use Prim.Native.Nat.{ℕ}
 use mir.Syntax.{w64}
 use mir.Val.{SFits}
 use Rattle.signed.specs.Bias.{unbiased}
 use Rattle.signed.proofs.Tests.{to_false, both, left_out, right_out}
 use Rattle.signed.proofs.Machine.{crossed}
-use Rattle.calendar.specs.Calendar.{has_year_zero, in_years, date, dropped}
+use Rattle.calendar.specs.Calendar.{in_years, dropped}
 use Rattle.calendar.specs.Answers.{is_possible}
-use Rattle.calendar.specs.Closed.{year_at}
-use Rattle.calendar.specs.declared.YearCount.{YearCount}
 use Rattle.calendar.proofs.Existing.{valid_dropped}
 use Rattle.calendar.proofs.Answering.{refused_past, refused_impossible, refused_dropped, refused_missing}
 use Rattle.calendar.proofs.Counted.{no_count, date_is}
@@ -56,8 +53,8 @@ returns-in-Missing c =
     let y = (goal.at.returns-in-Missing c).After-in_years in
     let i = in_years_is y c.if-not-in_years.false in
     let none_dropped : dropped a.c a.x ≡ false =
-        to_false (dropped a.c a.x)
-        (λ d. no_count a.c a.x c.biased-k.result (year_is y) i c.has_year_zero.result c.has_year_zero.ensures c.year_count.result c.year_count.ensures c.in-Missing.is (valid_dropped a.c a.x d)) in
+    to_false (dropped a.c a.x)
+    (λ d. no_count a.c a.x c.biased-k.result (year_is y) i c.has_year_zero.result c.has_year_zero.ensures c.year_count.result c.year_count.ensures c.in-Missing.is (valid_dropped a.c a.x d)) in
     refused_missing a.rest a.c a.x i (possible (goal.at.returns-in-Missing c).Else-not-is_possible) none_dropped
 
 pub returns-then-is_dropped : goal.returns-then-is_dropped

@@ -8,7 +8,6 @@ use Rattle.calendar.specs.Closed.{CountedRow, place_of, unpacked_place, label, c
 use Rattle.calendar.specs.declared.place.Place.{Place}
 use Rattle.calendar.proofs.Places.{place_small, unpacked_place_lem, packed_place}
 use Rattle.calendar.proofs.Theorems.{date_by_place, day_by_rule_small, place_by_rule}
-use borrow.Author.Rules.{rules}
 use Rattle.calendar.proofs.civil.packed_place.Goals as goal
 use Rattle.calendar.proofs.civil.packed_place.Goals.{After-day_by_rule, After-place_of-p}
 

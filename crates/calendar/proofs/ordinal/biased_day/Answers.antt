@@ -1,7 +1,7 @@
 -- `calendar::ordinal::biased_day` meets its contract.
 use mathlib.Core.Path.{◌≡◌, sym, ap, ◌∙◌, subst}
 use mathlib.Core.Bool.{Bool, true}
-use Prim.Native.Nat.{ℕ, ◌+◌, ◌-◌, ◌≤◌, ◌<◌}
+use Prim.Native.Nat.{ℕ, ◌+◌, ◌≤◌, ◌<◌}
 use native.Mathlib.Omega.{arith}
 use lib.Dec.{ltb}
 use Rattle.calendar.specs.Plain.{month_days, date}
@@ -10,12 +10,10 @@ use Rattle.calendar.specs.Answers.{is_possible}
 use Rattle.calendar.specs.Closed.{kind_at, year_at, count, day_place, counts, late_from, is_early, early_day, DayOrNone}
 use Rattle.calendar.specs.declared.Calendar.{Calendar}
 use Rattle.calendar.specs.declared.Date.{Date}
-use Rattle.calendar.specs.declared.place.Place.{Place}
 use Rattle.calendar.proofs.Years.{kind_low, year_most}
 use Rattle.calendar.proofs.Tables.{month_room}
 use Rattle.calendar.proofs.Existing.{possible_parts}
 use Rattle.calendar.proofs.Found.{none_possible, early_answer, late_answer, late_none}
-use borrow.Author.Rules.{rules}
 use Rattle.calendar.proofs.ordinal.biased_day.Goals as goal
 use Rattle.calendar.proofs.ordinal.biased_day.Goals.{After-days_before-n, After-is_early_day, After-is_proper, After-place_at-p}
 

@@ -14,7 +14,6 @@ use Rattle.calendar.specs.declared.rule.Rule.{Rule}
 use Rattle.calendar.proofs.Years.{year_least}
 use Rattle.calendar.proofs.Days.{late_small}
 use Rattle.calendar.proofs.Rows.{cutover}
-use borrow.Author.Rules.{rules}
 use Rattle.calendar.proofs.ordinal.early_day.Goals as goal
 use Rattle.calendar.proofs.ordinal.early_day.Goals.{After-is_early_day, After-is_proper}
 

@@ -8,10 +8,8 @@ use borrow.Author.Tests.{ne_eqb, lt-ltb}
 use Rattle.calendar.specs.Calendar.{date, exists, dropped, has_year_zero}
 use Rattle.calendar.specs.Closed.{year_at, has_day_at, before_place, counts}
 use Rattle.calendar.specs.declared.Calendar.{Calendar}
-use Rattle.calendar.specs.declared.place.Place.{Place}
 use Rattle.calendar.specs.declared.rule.Rule.{Rule}
 use Rattle.calendar.proofs.Counting.{dropped_by_lem}
-use borrow.Author.Rules.{rules}
 use Rattle.calendar.proofs.ordinal.is_dropped.Goals as goal
 use Rattle.calendar.proofs.ordinal.is_dropped.Goals.{After-has_day, After-is_before}
 

@@ -1,18 +1,13 @@
 -- `calendar::row::from_of` meets its contract.
-use mathlib.Core.Path.{◌≡◌, refl, sym, ap, ◌∙◌}
-use mathlib.Core.List.{◌∷◌, []}
+use mathlib.Core.Path.{sym, ap, ◌∙◌}
 use Prim.Native.Nat.{ℕ, ◌+◌}
 use native.Mathlib.Omega.{arith}
-use types.Run.{OneOf, miss}
-use denote.Enum.Declared.{tag_of}
-use Rattle.calendar.specs.Closed.{place_at, place_of, counts}
+use Rattle.calendar.specs.Closed.{place_of, counts}
 use Rattle.calendar.specs.declared.Calendar.{Calendar}
 use Rattle.calendar.specs.declared.rule.Rule.{Rule}
 use Rattle.calendar.specs.Calendar.{days_used}
-use Rattle.calendar.specs.contracts.Calendar.{the_type}
 use Rattle.calendar.proofs.Places.{place_at_lem}
 use Rattle.calendar.proofs.Cutovers.{used, from_at}
-use borrow.Author.Rules.{rules}
 use Rattle.calendar.proofs.row.from_of.Goals as goal
 
 pub place_of-requires : goal.place_of-requires

@@ -1,20 +1,15 @@
 -- `calendar::row::is_early_day` meets its contract.
-use mathlib.Core.Path.{◌≡◌, refl, sym, ap, ◌∙◌}
-use mathlib.Core.List.{◌∷◌, []}
+use mathlib.Core.Path.{◌≡◌, sym, ap, ◌∙◌}
 use mathlib.Core.Bool.{Bool, true, false, cond}
 use Prim.Native.Nat.{ℕ, zero, suc, ◌+◌, ◌≤◌, ◌<◌}
 use native.Mathlib.Omega.{arith}
-use types.Run.{OneOf, miss}
-use denote.Enum.Declared.{tag_of}
 use lib.Dec.{ltb}
 use borrow.Author.Tests.{lt-ltb, le-ltb}
 use Rattle.calendar.specs.Calendar.{days_used}
 use Rattle.calendar.specs.Closed.{counts, late_from}
 use Rattle.calendar.specs.Cutover.{allowed_after}
 use Rattle.calendar.specs.declared.Calendar.{Calendar}
-use Rattle.calendar.specs.contracts.Calendar.{the_type}
 use Rattle.calendar.proofs.Rows.{late_from_lem}
-use borrow.Author.Rules.{rules}
 use Rattle.calendar.proofs.row.is_early_day.Goals as goal
 use Rattle.calendar.proofs.row.is_early_day.Goals.{In-Standard}
 
