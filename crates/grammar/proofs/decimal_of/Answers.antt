@@ -1,4 +1,4 @@
--- `grammar::decimal_of` meets its contract. The loop's invariant: with the digits that are left, the value so far makes the whole number.
+-- `grammar::decimal_of` meets its contract: the goals; Invariants.antt has the loop's invariant.
 use Prim.Native.Nat.{ℕ, ◌+◌, ◌-◌, ◌*◌, ◌≤◌, ◌<◌}
 use native.Mathlib.Omega.{arith}
 use mathlib.Core.Path.{◌≡◌}

@@ -1,4 +1,4 @@
--- `grammar::run_end` meets its contract. The loop's invariant: the run from `at` ends where the run from `i` ends. The measure is what is
+-- `grammar::run_end` meets its contract: the goals; Invariants.antt has the loop's invariant.
 use Prim.Native.Nat.{◌<◌}
 use native.Mathlib.Omega.{arith}
 use mathlib.Core.Path.{◌≡◌, sym, ◌∙◌}

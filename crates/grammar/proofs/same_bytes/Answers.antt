@@ -1,4 +1,4 @@
--- `grammar::same_bytes` meets its contract. The loop's invariant: the texts are the same exactly if what is left of them is.
+-- `grammar::same_bytes` meets its contract: the goals; Invariants.antt has the loop's invariant.
 use mathlib.Core.Path.{sym}
 use Rattle.grammar.proofs.Same.{same_length_no}
 use Rattle.grammar.proofs.same_bytes.Goals as goal

@@ -1,4 +1,4 @@
--- `grammar::starts_in` meets its contract. The loop's invariant: the byte is in the set exactly if it is in what is left of it.
+-- `grammar::starts_in` meets its contract: the goals; Invariants.antt has the loop's invariant.
 use native.Mathlib.Omega.{arith}
 use mathlib.Core.Path.{sym, ◌∙◌}
 use lib.ListN.{get_or}

@@ -1,4 +1,4 @@
--- `grammar::word_at` meets its contract. The loop's invariant: the letters that are left, from the place reached, decide as the whole word does from the first place.
+-- `grammar::word_at` meets its contract: the goals; Invariants.antt has the loop's invariant.
 use native.Mathlib.Omega.{arith}
 use Prim.Native.Nat.{◌<◌}
 use mathlib.Core.Path.{◌≡◌, sym, ◌∙◌}
