@@ -7,16 +7,16 @@ pub returns-then-field-ge1087 : goal.returns-then-field-ge1087
 returns-then-field-ge1087 c = large c.args.field c.args.digits c.if-field-ge1087.true
 
 pub returns-then-field-digits-eq0 : goal.returns-then-field-digits-eq0
-returns-then-field-digits-eq0 c = let a = c in no_size a.args.field a.args.digits c.if-field-digits-eq0.true
+returns-then-field-digits-eq0 c = no_size c.args.field c.args.digits c.if-field-digits-eq0.true
 
 pub returns-then-field-lt1023 : goal.returns-then-field-lt1023
-returns-then-field-lt1023 c = let a = c in under_one a.args.field a.args.digits c.if-field-lt1023.true a.requires.1 c.if-field-digits-eq0.false
+returns-then-field-lt1023 c = under_one c.args.field c.args.digits c.if-field-lt1023.true c.requires.1 c.if-field-digits-eq0.false
 
 pub returns-then-field-gt1075 : goal.returns-then-field-gt1075
-returns-then-field-gt1075 c = let a = c in shifted_up a.args.field a.args.digits c.if-field-gt1075.true c.if-field-ge1087.false a.requires.1
+returns-then-field-gt1075 c = shifted_up c.args.field c.args.digits c.if-field-gt1075.true c.if-field-ge1087.false c.requires.1
 
 pub returns-then-n-field : goal.returns-then-n-field
-returns-then-n-field c = let a = c in shifted_down a.args.field a.args.digits (search rules) c.if-field-gt1075.false a.requires.1 c.if-n-field.true
+returns-then-n-field c = shifted_down c.args.field c.args.digits (search rules) c.if-field-gt1075.false c.requires.1 c.if-n-field.true
 
 pub returns-else-n-field : goal.returns-else-n-field
-returns-else-n-field c = let a = c in left_over a.args.field a.args.digits (search rules) c.if-field-gt1075.false a.requires.1 c.if-n-field.false
+returns-else-n-field c = left_over c.args.field c.args.digits (search rules) c.if-field-gt1075.false c.requires.1 c.if-n-field.false
