@@ -1,5 +1,5 @@
 -- What no date of any calendar has, months but 1 to 12 and days but 1 to 31; and the days that were dropped, which `standard` lists.
-use mathlib.Core.Path.{◌≡◌, refl, ap, ◌∙◌}
+use mathlib.Core.Path.{◌≡◌, refl, ◌∙◌}
 use mathlib.Core.Bool.{true, false, ◌&&◌}
 use Prim.Native.Nat.{ℕ}
 use native.Mathlib.Omega.{arith}

@@ -3,17 +3,12 @@ use mathlib.Core.Path.{sym, ap, ◌∙◌}
 use Rattle.calendar.specs.declared.DateAnswer.{DateAnswer}
 use Rattle.calendar.proofs.Answering.{in_range_lem, out_of_range}
 use Rattle.signed.specs.Bias.{unbiased}
-use borrow.Author.Rules.{rules}
 use Rattle.calendar.proofs.date_of_biased_day.Goals as goal
 
 pub returns-then-day_in_years : goal.returns-then-day_in_years
 returns-then-day_in_years c =
-    let p = c in
-    let d = c in
-    let s = c in
-    ap DateAnswer.Is (c.date_of_packed.ensures ∙ p.place_in_years.ensures.dated) ∙ in_range_lem s.args.c (unbiased s.args.k) (sym d.day_in_years.ensures ∙ p.if-day_in_years.true)
+    ap DateAnswer.Is (c.date_of_packed.ensures ∙ c.place_in_years.ensures.dated)
+    ∙ in_range_lem c.args.c (unbiased c.args.k) (sym c.day_in_years.ensures ∙ c.if-day_in_years.true)
 
 pub returns : goal.returns
-returns c =
-    let s = c in
-    out_of_range s.args.c (unbiased s.args.k) (sym c.day_in_years.ensures ∙ c.if-day_in_years.false)
+returns c = out_of_range c.args.c (unbiased c.args.k) (sym c.day_in_years.ensures ∙ c.if-day_in_years.false)

@@ -5,7 +5,6 @@ use native.Mathlib.Omega.{arith}
 use lib.Dec.{leb, ltb}
 use Rattle.calendar.proofs.Range.{small}
 use Rattle.calendar.proofs.Answering.{years_early, years_middle, years_late}
-use borrow.Author.Rules.{rules}
 use Rattle.calendar.proofs.day_in_years.Goals as goal
 
 pub overflow_add-result : goal.overflow_add-result

@@ -2,7 +2,6 @@
 use mathlib.Core.Path.{ap, ◌∙◌}
 use Rattle.calendar.specs.Closed.{year_start, row_epoch}
 use Rattle.calendar.specs.declared.row.Parts.{Parts}
-use borrow.Author.Rules.{rules}
 use Rattle.calendar.proofs.epoch_day.Goals as goal
 
 pub returns : goal.returns

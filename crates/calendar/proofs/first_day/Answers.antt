@@ -8,7 +8,6 @@ use Rattle.calendar.proofs.Years.{year_least}
 use Rattle.calendar.proofs.Range.{first_two}
 use Rattle.calendar.proofs.Rows.{cutover}
 use Rattle.calendar.specs.declared.row.Parts.{Parts}
-use borrow.Author.Rules.{rules}
 use Rattle.calendar.proofs.first_day.Goals as goal
 use Rattle.calendar.proofs.first_day.Goals.{After-lag_of}
 

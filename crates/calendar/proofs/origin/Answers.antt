@@ -1,7 +1,6 @@
 -- `calendar::origin` meets its contract.
 use native.Mathlib.Omega.{arith}
 use Rattle.calendar.proofs.Range.{small}
-use borrow.Author.Rules.{rules}
 use Rattle.calendar.proofs.origin.Goals as goal
 
 pub overflow_sub-result : goal.overflow_sub-result

@@ -6,12 +6,14 @@ use lib.IntN.{ℤ}
 use Rattle.calendar.specs.Closed.{end_day, PlaceOfDay}
 use Rattle.calendar.proofs.Range.{small}
 use Rattle.calendar.proofs.Answering.{years_inside, place_is}
-use borrow.Author.Rules.{rules}
 use Rattle.calendar.proofs.place_in_years.Goals as goal
 use Rattle.calendar.proofs.place_in_years.Goals.{After-origin}
 
 inside : (c : After-origin) → (c.origin.result ≤ c.args.k) × (c.args.k - c.origin.result < end_day c.args.c)
 inside c = years_inside c.args.c c.args.k c.origin.result c.origin.ensures c.requires
+
+pub overflow_sub-k : goal.overflow_sub-k
+overflow_sub-k c = (inside c).0
 
 pub packed_place-requires : goal.packed_place-requires
 packed_place-requires c = omega (arith, (inside c).1, small c.args.c)
@@ -21,7 +23,3 @@ returns c =
     let o = (goal.at.returns c).After-origin in
     let s = c in
     subst (λ (z : ℤ). PlaceOfDay s.args.c z c.packed_place.result) (place_is s.args.c s.args.k o.origin.result o.origin.ensures (inside o).0) c.packed_place.ensures
-
--- TODO
-pub overflow_sub-k : goal.overflow_sub-k
-overflow_sub-k c = ?

@@ -1,8 +1,7 @@
 -- `leap_seconds::count_on` meets its contract.
-use mathlib.Core.Path.{◌≡◌, ap, subst}
+use mathlib.Core.Path.{◌≡◌, subst}
 use Prim.Native.Nat.{◌+◌}
 use native.Mathlib.Omega.{arith}
-use borrow.Author.Rules.{rules}
 use Rattle.leap_seconds.specs.Leaps.{leaps}
 use Rattle.leap_seconds.specs.Closed.{CountIs}
 use Rattle.leap_seconds.proofs.Listed.{listed}

@@ -1,12 +1,7 @@
 -- `leap_seconds::holding` meets its contract. The invariant: the record after place i is later than the day.
-use mathlib.Core.Path.{◌≡◌, ap}
-use mathlib.Core.List.{List}
-use Prim.Native.Nat.{ℕ, suc, ◌-◌, ◌/◌, ◌<◌, ◌≤◌}
-use native.Mathlib.Omega.{arith}
-use native.Mathlib.Decide.{dec_le}
+use Prim.Native.Nat.{suc, ◌/◌, ◌<◌}
 use lib.ListN.{length}
 use Rattle.leap_seconds.specs.Closed.{day_at}
-use Rattle.leap_seconds.proofs.Listed.{Listed, listed}
 use Rattle.leap_seconds.proofs.holding.Given as goal
 
 abbrev pub invariant-loop-i : goal.invariant-loop-i

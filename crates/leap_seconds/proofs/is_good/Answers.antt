@@ -1,6 +1,5 @@
 -- `leap_seconds::is_good` meets its contract.
 use mathlib.Core.Path.{sym, ◌∙◌}
-use borrow.Author.Rules.{rules}
 use Rattle.leap_seconds.proofs.Testing.{part_record, no_record, too_many, other_day, other_first, by_rest}
 use Rattle.leap_seconds.proofs.is_good.Goals as goal
 

@@ -1,10 +1,9 @@
 -- `leap_seconds::is_leap_day` meets its contract.
-use mathlib.Core.Path.{ap, ◌∙◌, subst}
+use mathlib.Core.Path.{◌∙◌, subst}
 use Prim.Native.Nat.{ℕ}
 use native.Mathlib.Omega.{arith}
 use lib.Dec.{eqb}
 use native.Mathlib.Numerals.{add-one}
-use borrow.Author.Rules.{rules}
 use Rattle.leap_seconds.specs.Closed.{HoldsOn}
 use Rattle.leap_seconds.proofs.Listed.{listed, listed_small}
 use Rattle.leap_seconds.proofs.OnDays.{after_first, not_listed, leap_test}

@@ -3,7 +3,6 @@ use mathlib.Core.Path.{sym, ap, ◌∙◌}
 use mathlib.Core.List.{List}
 use Prim.Native.Nat.{ℕ, ◌+◌, ◌-◌, ◌/◌, ◌%◌, ◌<◌}
 use native.Mathlib.Omega.{arith}
-use borrow.Author.Rules.{rules}
 use Rattle.leap_seconds.specs.Utc.{moment}
 use Rattle.leap_seconds.specs.Closed.{day_at}
 use Rattle.leap_seconds.proofs.Listed.{Listed, listed}

@@ -1,12 +1,11 @@
 -- `leap_seconds::rises` meets its contract. The invariant: the whole test is the test of the records that are left, after the last day and count.
-use Prim.Native.Nat.{ℕ, suc, ◌+◌, ◌-◌, ◌*◌, ◌<◌, ◌≤◌, ◌^◌}
-use mathlib.Core.Path.{◌≡◌, refl, sym, ap, ◌∙◌}
+use Prim.Native.Nat.{ℕ, suc, ◌+◌, ◌-◌, ◌*◌, ◌<◌, ◌^◌}
+use mathlib.Core.Path.{◌≡◌, sym, ap, ◌∙◌}
 use mathlib.Core.List.{List, ◌∷◌}
 use native.Mathlib.Omega.{arith}
 use lib.IntN.{pos}
 use mir.Syntax.{w64}
 use mir.ValLaws.{to_z_pos}
-use borrow.Author.Rules.{rules}
 use Rattle.leap_seconds.specs.Leaps.{Leap, leap_at, leaps_from, rises_from, word_at}
 use Rattle.leap_seconds.specs.Closed.{day_at}
 use Rattle.leap_seconds.proofs.Testing.{word_negative, not_natural, rises_next, not_later, negative_day, other_count, leaps_next, leaps_end}

@@ -8,7 +8,6 @@ use Rattle.calendar.specs.Closed.{CountedRow, place_of, unpacked_place, label, c
 use Rattle.calendar.specs.declared.place.Place.{Place}
 use Rattle.calendar.proofs.Places.{place_small, unpacked_place_lem, packed_place}
 use Rattle.calendar.proofs.Theorems.{date_by_place, day_by_rule_small, place_by_rule}
-use borrow.Author.Rules.{rules}
 use Rattle.calendar.proofs.civil.packed_place.Goals as goal
 use Rattle.calendar.proofs.civil.packed_place.Goals.{After-day_by_rule, After-place_of-p}
 
@@ -34,6 +33,9 @@ small c =
     let d = c.before in
     subst (λ (p : Place). (p.y < 2 ^ 31) × ((p.m < 12) × (p.i < 31))) (sym c.place_of-p.ensures) (place_small d.rule_of.result d.day_by_rule.result (near d))
 
+pub place_of-p-requires : goal.place_of-p-requires
+place_of-p-requires c = near c
+
 pub overflow_mul-result : goal.overflow_mul-result
 overflow_mul-result c = record { fits = omega (arith, small (goal.at.overflow_mul-result c).After-place_of-p) }
 
@@ -52,7 +54,3 @@ returns c =
     let is : p ≡ place_by_rule s.args.c s.args.n = l.place_of-p.ensures ∙ (λ i. place_of (rule_is d i) (day_is d i)) in
     let back : unpacked_place (packed_place p) ≡ p = unpacked_place_lem p (small l).1.0 (small l).1.1 in
     record { small = omega (arith, small l); dated = ap (label (has_year_zero s.args.c)) (back ∙ is) ∙ sym (date_by_place s.args.c s.args.n) }
-
--- TODO
-pub place_of-p-requires : goal.place_of-p-requires
-place_of-p-requires c = ?

@@ -10,7 +10,6 @@ use Rattle.calendar.specs.declared.rule.Rule.{Rule}
 use Rattle.calendar.proofs.Years.{kind_low}
 use Rattle.calendar.proofs.Places.{place_at_lem, place_small}
 use Rattle.calendar.proofs.Cutovers.{kept_place, drop_count, allowed_test, too_late}
-use borrow.Author.Rules.{rules}
 use Rattle.calendar.proofs.cutover.is_allowed.Goals as goal
 use Rattle.calendar.proofs.cutover.is_allowed.Goals.{After-kind_of_year-kind}
 

@@ -4,7 +4,6 @@ use mathlib.Core.Bool.{cond}
 use Prim.Native.Nat.{ℕ, ◌+◌, ◌-◌, ◌%◌, ◌<◌}
 use lib.Dec.{eqb}
 use borrow.Author.Tests.{eqb-true, eq-eqb, ne_eqb}
-use borrow.Author.Rules.{rules}
 use Rattle.calendar.specs.Plain.{month_days}
 use Rattle.calendar.proofs.Tables.{all, each_month}
 use Rattle.calendar.proofs.month.month_length.Goals as goal

@@ -1,12 +1,8 @@
 -- `calendar::month::month_start` meets its contract.
-use mathlib.Core.Path.{◌≡◌, refl, sym, ◌∙◌}
-use mathlib.Core.Bool.{Bool, true, false, cond}
-use Prim.Native.Nat.{ℕ, ◌+◌, ◌-◌, ◌*◌, ◌/◌, ◌≤◌}
-use native.Mathlib.Omega.{arith}
-use lib.Dec.{ltb}
-use borrow.Author.Tests.{eq-eqb, ne_eqb, ltb-false}
+use mathlib.Core.Path.{◌≡◌, sym, ◌∙◌}
+use Prim.Native.Nat.{◌+◌, ◌-◌, ◌*◌, ◌/◌}
+use borrow.Author.Tests.{eq-eqb, ne_eqb}
 use Rattle.calendar.proofs.Tables.{month_start_lem, month_start_of}
-use borrow.Author.Rules.{rules}
 use Rattle.calendar.proofs.month.month_start.Goals as goal
 
 pub returns-then-j-eq2 : goal.returns-then-j-eq2

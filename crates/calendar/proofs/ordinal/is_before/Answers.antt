@@ -1,6 +1,5 @@
 -- `calendar::ordinal::is_before` meets its contract.
 use Rattle.calendar.proofs.Counting.{by_other_year, by_month_before, by_month_after, by_day_test}
-use borrow.Author.Rules.{rules}
 use Rattle.calendar.proofs.ordinal.is_before.Goals as goal
 
 pub returns-then-y-p : goal.returns-then-y-p

@@ -5,7 +5,6 @@ use native.Mathlib.Omega.{arith}
 use Rattle.calendar.specs.Closed.{month_start, count}
 use Rattle.calendar.proofs.Years.{year_most, kind_low}
 use Rattle.calendar.proofs.Tables.{month_room}
-use borrow.Author.Rules.{rules}
 use Rattle.calendar.proofs.place.days_before.Goals as goal
 use Rattle.calendar.proofs.place.days_before.Goals.{After-month_start}
 

@@ -1,18 +1,13 @@
 -- `calendar::row::from_of` meets its contract.
-use mathlib.Core.Path.{◌≡◌, refl, sym, ap, ◌∙◌}
-use mathlib.Core.List.{◌∷◌, []}
+use mathlib.Core.Path.{sym, ap, ◌∙◌}
 use Prim.Native.Nat.{ℕ, ◌+◌}
 use native.Mathlib.Omega.{arith}
-use types.Run.{OneOf, miss}
-use denote.Enum.Declared.{tag_of}
-use Rattle.calendar.specs.Closed.{place_at, place_of, counts}
+use Rattle.calendar.specs.Closed.{place_of, counts}
 use Rattle.calendar.specs.declared.Calendar.{Calendar}
 use Rattle.calendar.specs.declared.rule.Rule.{Rule}
 use Rattle.calendar.specs.Calendar.{days_used}
-use Rattle.calendar.specs.contracts.Calendar.{the_type}
 use Rattle.calendar.proofs.Places.{place_at_lem}
 use Rattle.calendar.proofs.Cutovers.{used, from_at}
-use borrow.Author.Rules.{rules}
 use Rattle.calendar.proofs.row.from_of.Goals as goal
 
 pub place_of-requires : goal.place_of-requires
@@ -20,9 +15,7 @@ place_of-requires c = omega (arith, c.days_used.ensures, (used c.in-Standard.k).
 
 pub returns-in-Standard : goal.returns-in-Standard
 returns-in-Standard c =
-    let d = c in
-    let k = d.c-1.given in
-    let n = days_used k.0.0 in
+    let n = days_used c.in-Standard.k in
     c.place_of.ensures
-    ∙ (ap (λ (i : ℕ). place_of Rule.Gregorian (4230526 + i)) d.days_used.ensures
-    ∙ (place_at_lem Rule.Gregorian (4230526 + n) ∙ (sym (from_at n) ∙ ap (λ (x : Calendar). (counts x).from) (sym k.1))))
+    ∙ (ap (λ (i : ℕ). place_of Rule.Gregorian (4230526 + i)) c.days_used.ensures
+    ∙ (place_at_lem Rule.Gregorian (4230526 + n) ∙ (sym (from_at n) ∙ ap (λ (x : Calendar). (counts x).from) (sym c.in-Standard.is))))

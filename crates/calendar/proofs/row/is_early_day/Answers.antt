@@ -1,20 +1,15 @@
 -- `calendar::row::is_early_day` meets its contract.
-use mathlib.Core.Path.{◌≡◌, refl, sym, ap, ◌∙◌}
-use mathlib.Core.List.{◌∷◌, []}
+use mathlib.Core.Path.{◌≡◌, sym, ap, ◌∙◌}
 use mathlib.Core.Bool.{Bool, true, false, cond}
 use Prim.Native.Nat.{ℕ, zero, suc, ◌+◌, ◌≤◌, ◌<◌}
 use native.Mathlib.Omega.{arith}
-use types.Run.{OneOf, miss}
-use denote.Enum.Declared.{tag_of}
 use lib.Dec.{ltb}
 use borrow.Author.Tests.{lt-ltb, le-ltb}
 use Rattle.calendar.specs.Calendar.{days_used}
 use Rattle.calendar.specs.Closed.{counts, late_from}
 use Rattle.calendar.specs.Cutover.{allowed_after}
 use Rattle.calendar.specs.declared.Calendar.{Calendar}
-use Rattle.calendar.specs.contracts.Calendar.{the_type}
 use Rattle.calendar.proofs.Rows.{late_from_lem}
-use borrow.Author.Rules.{rules}
 use Rattle.calendar.proofs.row.is_early_day.Goals as goal
 use Rattle.calendar.proofs.row.is_early_day.Goals.{In-Standard}
 
@@ -37,25 +32,20 @@ between (suc k) n h g = go (allowed_after (suc k))
     go false = sym (le-ltb n (4230526 + zero) (omega arith))
 
 -- `standard` is late from its cutover on
-module _ (e : In-Standard) where
-  abbrev k : ℕ
-  k = days_used e.in-Standard.k
-
-  from : late_from (counts e.args.c-1) ≡ 4230526 + k
-  from = ap (λ (x : Calendar). late_from (counts x)) e.in-Standard.is ∙ late_from_lem e.in-Standard.k
+from : (e : In-Standard) → late_from (counts e.args.c) ≡ 4230526 + days_used e.in-Standard.k
+from e = ap (λ (x : Calendar). late_from (counts x)) e.in-Standard.is ∙ late_from_lem e.in-Standard.k
 
 pub returns-then-n-lt-FIRST : goal.returns-then-n-lt-FIRST
-returns-then-n-lt-FIRST c = let e = (goal.at.returns-then-n-lt-FIRST c).In-Standard in sym (lt-ltb e.before.before.before.args.n _ (omega (arith, from e, c.if-n-lt-FIRST.true)))
+returns-then-n-lt-FIRST c = sym (lt-ltb c.args.n _ (omega (arith, from (goal.at.returns-then-n-lt-FIRST c).In-Standard, c.if-n-lt-FIRST.true)))
 
 -- from the cutover that is carried on, whether it is allowed or not
 pub returns-then-k-n : goal.returns-then-k-n
 returns-then-k-n c =
     let e = (goal.at.returns-then-k-n c).In-Standard in
-    sym (le-ltb e.args.n _ (omega (arith, from e, within e.in-Standard.k, c.if-k-n.true)))
+    sym (le-ltb c.args.n _ (omega (arith, from e, within e.in-Standard.k, c.if-k-n.true)))
 
 -- between the first and that
 pub returns-in-Standard : goal.returns-in-Standard
 returns-in-Standard c =
-    let l = c in
     let e = (goal.at.returns-in-Standard c).In-Standard in
-    c.is_allowed.ensures ∙ (between e.in-Standard.k e.args.n l.if-n-lt-FIRST.false l.if-k-n.false ∙ ap (ltb e.args.n) (sym (from e)))
+    c.is_allowed.ensures ∙ (between e.in-Standard.k c.args.n c.if-n-lt-FIRST.false c.if-k-n.false ∙ ap (ltb c.args.n) (sym (from e)))

@@ -1,15 +1,9 @@
 -- `calendar::row::is_mixed` meets its contract.
-use mathlib.Core.Path.{◌≡◌, refl, sym, ap, ◌∙◌}
-use mathlib.Core.Bool.{false}
-use mathlib.Core.List.{◌∷◌, []}
-use types.Run.{OneOf, miss}
-use denote.Enum.Declared.{tag_of}
+use mathlib.Core.Path.{sym, ap, ◌∙◌}
 use Rattle.calendar.specs.Calendar.{days_used}
 use Rattle.calendar.specs.Closed.{counts, mixed}
 use Rattle.calendar.specs.declared.Calendar.{Calendar}
-use Rattle.calendar.specs.contracts.Calendar.{the_type}
 use Rattle.calendar.proofs.Cutovers.{standard_mixed}
-use borrow.Author.Rules.{rules}
 use Rattle.calendar.proofs.row.is_mixed.Goals as goal
 
 pub returns-in-Standard : goal.returns-in-Standard

@@ -1,8 +1,6 @@
 -- `calendar::row::lag_of` meets its contract.
 use mathlib.Core.Path.{sym, ◌∙◌}
-use Rattle.calendar.specs.Closed.{mixed}
 use Rattle.calendar.proofs.Rows.{mixed_lag, plain_lag}
-use borrow.Author.Rules.{rules}
 use Rattle.calendar.proofs.row.lag_of.Goals as goal
 
 pub returns-then-is_mixed : goal.returns-then-is_mixed

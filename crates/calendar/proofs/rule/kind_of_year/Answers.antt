@@ -3,7 +3,6 @@ use mathlib.Core.Path.{sym, ap, ◌∙◌}
 use Rattle.calendar.specs.Closed.{kind_at}
 use Rattle.calendar.specs.declared.rule.Rule.{Rule}
 use Rattle.calendar.proofs.Years.{kind_400, kind_100, kind_4, kind_other, kind_julian_4, kind_julian_other}
-use borrow.Author.Rules.{rules}
 use Rattle.calendar.proofs.rule.kind_of_year.Goals as goal
 
 pub returns-then-y-eq0 : goal.returns-then-y-eq0

@@ -3,7 +3,6 @@ use mathlib.Core.Path.{sym, ap, ◌∙◌}
 use Rattle.calendar.specs.Closed.{year_start}
 use Rattle.calendar.specs.declared.rule.Rule.{Rule}
 use Rattle.calendar.proofs.Years.{centuries}
-use borrow.Author.Rules.{rules}
 use Rattle.calendar.proofs.rule.year_start.Goals as goal
 
 pub returns-in-Gregorian : goal.returns-in-Gregorian

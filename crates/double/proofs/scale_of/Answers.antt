@@ -8,8 +8,8 @@ use lib.Dec.{lit≤}
 use lib.Pow.{pow-add, pow_mono, shl_lt}
 use lib.Count.{count_leading_zeros, leading_top}
 use Rattle.double.specs.Displacement.{IsScale}
-use Rattle.double.proofs.scale_of.Statement.{statement}
-use Rattle.double.proofs.scale_of.Tie as tie
+use Rattle.double.proofs.scale_of.Goals as goal
+use Rattle.double.proofs.scale_of.Goals.{Start}
 
 -- a number P whose highest digit is at place j
 module _ (P z : ℕ) (M : P < 2 ^ 63) (j : ℕ) (e : z + suc j ≡ 64) (lo : 2 ^ j ≤ P) (hi : P < 2 ^ suc j) where
@@ -38,7 +38,7 @@ module _ (P z : ℕ) (M : P < 2 ^ 63) (j : ℕ) (e : z + suc j ≡ 64) (lo : 2 ^
         few = omega arith;
       }
 
-module _ (c : tie.Start) where
+module _ (c : Start) where
   abbrev P : ℕ
   P = c.args.micros
 
@@ -51,17 +51,8 @@ module _ (c : tie.Start) where
   one : 1 ≤ z
   one = some P z c.requires.1 top.0 top.1 top.2 top.3
 
-cast_shift : tie.Need-overflow-cast-shift
-cast_shift c = record { fits = omega (arith, (top c).1) }
+pub overflow_sub-shift : goal.overflow_sub-shift
+overflow_sub-shift c = one c
 
-sub_shift : tie.Need-overflow-sub-shift
-sub_shift c = one c
-
-shl_t4 : tie.Need-overflow-shl-t4
-shl_t4 c = omega (arith, (top c).1, one c)
-
-returns : tie.Need-returns
+pub returns : goal.returns
 returns c = (refl, scaled (P c) (z c) c.requires.1 (top c).0 (top c).1 (top c).2 (top c).3)
-
-pub scale_of_spec : {M : Type 1} → statement M
-scale_of_spec = tie.close (tie.spec cast_shift sub_shift shl_t4 returns)

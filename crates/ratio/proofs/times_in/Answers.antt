@@ -1,17 +1,10 @@
 -- `ratio::times_in` meets its contract.
-use Rattle.std.proofs.Common.{◌≡◌, ℕ, ◌+◌, ◌*◌, ◌/◌, ◌^◌, ◌<◌, ◌≤◌, sym, ap, ◌∙◌, subst, mul-le-mul_right, mul-one, arith, rules, le-ltb}
+use Rattle.std.proofs.Common.{◌≡◌, ℕ, ◌+◌, ◌*◌, ◌/◌, ◌^◌, ◌<◌, ◌≤◌, sym, ap, ◌∙◌, subst, mul-le-mul_right, arith, le-ltb}
 use Rattle.ratio.specs.Multiples.{Good}
 use Rattle.ratio.specs.declared.Ratio.{Ratio}
 use Rattle.ratio.proofs.Reciprocal.{times_found}
 use Rattle.ratio.proofs.Places.{steps_fit}
-use Rattle.ratio.proofs.times_in.Statement.{statement}
-use Rattle.ratio.proofs.times_in.Tie as tie
-
-returns : tie.Need-returns
-returns c =
-    let r = c.before.before.args.r in
-    let one : (n : ℕ) → n * r.from ≡ n = λ n. ap (λ (k : ℕ). n * k) c.if1.true ∙ mul-one n in
-    ((λ i e. e ∙ one i), (λ h. omega (arith, one (r.below + r.above))))
+use Rattle.ratio.proofs.times_in.Goals as goal
 
 -- a step other than 1
 module _ (r : Ratio) (g : Good r) (other : r.from ≡ 1 → ⊥) where
@@ -36,13 +29,8 @@ module _ (r : Ratio) (g : Good r) (other : r.from ≡ 1 → ⊥) where
       go : (p q : ℕ) → p ≤ q → q / 2 ^ 64 ≡ r.below + r.above → p / 2 ^ 64 ≤ r.below + r.above
       go p q l e = omega arith
 
-returns_2 : tie.Need-returns-2
-returns_2 c =
-    let b = c.before in
-    let s = b.before.before in
-    let r = s.args.r in
-    let e = c.high_product.ensures in
-    ((λ i h. e ∙ found r s.requires b.if1.false s.args.v i s.ranges.v.fits h), (λ h. subst (λ (n : ℕ). n ≤ r.below + r.above) (sym e) (bounded r s.requires b.if1.false s.args.v h)))
+pub returns-clause-found : goal.returns-clause-found
+returns-clause-found c = λ i h. c.high_product.ensures ∙ found c.args.r c.requires c.if-r-eq1.false c.args.v i c.ranges.v.fits h
 
-pub times_in_spec : {M : Type 1} → statement M
-times_in_spec = tie.close (tie.spec returns (λ c κs. search rules) returns_2)
+pub returns-clause-bounded : goal.returns-clause-bounded
+returns-clause-bounded c = λ h. subst (λ (n : ℕ). n ≤ c.args.r.below + c.args.r.above) (sym c.high_product.ensures) (bounded c.args.r c.requires c.if-r-eq1.false c.args.v h)
