@@ -71,6 +71,6 @@ pub fn write_form(w: WrittenDate, room: &mut [u8]) -> LengthAnswer
     if room.len() < n {
         return LengthAnswer::Refused(Refusal::NoRoom);
     }
-    bytes::copy(&t[a..], room);
+    room[..n].copy_from_slice(&t[a..]);
     LengthAnswer::Is(n)
 }
