@@ -31,6 +31,7 @@ pub data IsPlain : Calendar → Type 0 where
 
 pub any_cutover : (c : Calendar) → IsPlain c → (x : Date) → Carries c x
 unfolding with_cutover
+any_cutover (Standard _) p x = elim p [ ]
 any_cutover ProlepticGregorian p x = refl
 any_cutover Julian p x = refl
 any_cutover NoLeap p x = refl
