@@ -1,12 +1,9 @@
 -- `units_text::mode_at` meets its contract: each `return` is a step of the reader.
-use borrow.Author.Rules.{rules}
 use mathlib.Core.Path.{◌≡◌, refl, sym, ap, ◌∙◌}
-use mathlib.Core.Bool.{true}
 use lib.ListN.{drop}
 use Rattle.grammar.specs.Answers.{end_in}
-use Rattle.grammar.specs.Grammar.{inside, within, every, starts}
+use Rattle.grammar.specs.Grammar.{inside, within, every}
 use Rattle.grammar.specs.Reader.{given, scan}
-use Rattle.grammar.specs.Rules.{either}
 use Rattle.grammar.specs.declared.EndAt.{EndAt}
 use Rattle.axis_types.specs.declared.Mode.{Mode}
 use Rattle.units_text.specs.UnitsRule.{mode}

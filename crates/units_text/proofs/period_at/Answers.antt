@@ -1,13 +1,9 @@
 -- `units_text::period_at` meets its contract: the run of letters is what the reader takes.
-use borrow.Author.Rules.{rules}
 use native.Mathlib.Omega.{arith}
-use Prim.Native.Nat.{◌-◌}
 use mathlib.Core.Path.{sym, ap, ◌∙◌, ◌≡◌}
-use Prim.Native.Nat.{ℕ}
-use mathlib.Core.List.{List}
-use lib.ListN.{drop, length, take}
+use lib.ListN.{drop}
 use Rattle.grammar.specs.Grammar.{starts}
-use Rattle.grammar.specs.Reader.{front, back, valued, scan, found}
+use Rattle.grammar.specs.Reader.{back, valued, scan, found}
 use Rattle.grammar.specs.Rules.{bytes, span, any_of}
 use Rattle.word_table.specs.Table.{lookup}
 use Rattle.grammar.proofs.Classes.{front_every}
@@ -19,18 +15,14 @@ use Rattle.units_text.specs.declared.Meaning.{Meaning}
 use Rattle.units_text.proofs.period_at.Goals as goal
 use Rattle.units_text.proofs.period_at.Goals.{After-period_of, After-run_end-e}
 
--- the letters that were found are the run that the reader takes
-letters : (s : List ℕ) (at e : ℕ) → e ≡ run_end (span 97 122) s at → take (e - at) (drop at s) ≡ front (span 97 122) (drop at s)
-letters s at e h = run_part (span 97 122) s at e h
-
 -- the word, by what it means
 meant : (d : After-period_of) (o : Meaning) → d.period_of.result ≡ o
     → let a = d.args in
     scan period_word (drop a.at a.s.now) ≡ valued (meaning_of o) (back (span 97 122) (drop a.at a.s.now))
 meant d o e =
     let a = d.args in
-    run_is _ _ _ (drop a.at a.s.now) _ (ap (starts (any_of (bytes "dhmswy"))) (sym (letters a.s.now a.at d.run_end-e.result d.run_end-e.ensures)) ∙ sym d.starts_in.ensures ∙ d.if-starts_in.true)
-    (ap (lookup period_words) (sym (letters a.s.now a.at d.run_end-e.result d.run_end-e.ensures)) ∙ d.period_of.ensures ∙ ap meaning_of e)
+    run_is _ _ _ (drop a.at a.s.now) _ (ap (starts (any_of (bytes "dhmswy"))) (sym (run_part (span 97 122) a.s.now a.at d.run_end-e.result d.run_end-e.ensures)) ∙ sym d.starts_in.ensures ∙ d.if-starts_in.true)
+    (ap (lookup period_words) (sym (run_part (span 97 122) a.s.now a.at d.run_end-e.result d.run_end-e.ensures)) ∙ d.period_of.ensures ∙ ap meaning_of e)
 
 pub returns-then-e-at : goal.returns-then-e-at
 returns-then-e-at c = let a = c.args in run_empty _ _ _ (drop a.at a.s.now) (omega arith)
@@ -49,5 +41,10 @@ pub returns : goal.returns
 returns c =
     let r = c in
     let a = r.args in
-    run_no _ _ _ (drop a.at a.s.now) (ap (starts (any_of (bytes "dhmswy"))) (sym (letters a.s.now a.at c.run_end-e.result c.run_end-e.ensures)) ∙ sym c.starts_in.ensures ∙ c.if-starts_in.false)
+    run_no _ _ _ (drop a.at a.s.now) (ap (starts (any_of (bytes "dhmswy"))) (sym (run_part (span 97 122) a.s.now a.at c.run_end-e.result c.run_end-e.ensures)) ∙ sym c.starts_in.ensures ∙ c.if-starts_in.false)
 
+pub slice_bounds-d-end : goal.slice_bounds-d-end
+slice_bounds-d-end c = run_end (span 97 122) c.args.s.now c.args.at c.run_end-e.result c.run_end-e.ensures c.if-e-at.false
+
+pub period_of-requires-clause-d_value : goal.period_of-requires-clause-d_value
+period_of-requires-clause-d_value c = rw (run_part (span 97 122) c.args.s.now c.args.at c.run_end-e.result c.run_end-e.ensures) (front_every (span 97 122) (drop c.args.at c.args.s.now))

@@ -1,6 +1,5 @@
 -- `units_text::period_of` meets its contract. The word's number is looked up in the table: the keys of an arm all stand for the arm's
 -- period, and a number that is no key of any arm is in no row. The table has one word of more than eight letters.
-use borrow.Author.Rules.{rules}
 use native.Mathlib.Omega.{arith}
 use Prim.Native.Nat.{ℕ}
 use mathlib.Core.Path.{◌≡◌, sym, ◌∙◌, refl, ap}

@@ -1,5 +1,4 @@
 -- `units_text::read_units` meets its contract: the units text ends where the text does.
-use borrow.Author.Rules.{rules}
 use mathlib.Core.Path.{sym, ap, ◌∙◌, ◌≡◌}
 use Rattle.date_text.specs.Answers.{written_in}
 use Rattle.date_text.specs.declared.WrittenAt.{WrittenAt}

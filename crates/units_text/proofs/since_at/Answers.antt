@@ -1,5 +1,4 @@
 -- `units_text::since_at` meets its contract: each `return` is a step of the reader.
-use borrow.Author.Rules.{rules}
 use mathlib.Core.Path.{refl, ap, ◌∙◌}
 use Rattle.grammar.specs.Answers.{end_in}
 use Rattle.grammar.specs.Grammar.{inside, within, every}

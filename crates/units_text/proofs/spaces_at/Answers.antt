@@ -1,5 +1,4 @@
 -- `units_text::spaces_at` meets its contract: each `return` is a step of the reader.
-use borrow.Author.Rules.{rules}
 use native.Mathlib.Omega.{arith}
 use mathlib.Core.Path.{sym, ap, ◌∙◌}
 use lib.ListN.{drop}
