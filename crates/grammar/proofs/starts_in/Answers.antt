@@ -10,20 +10,17 @@ returns-then-s-at c = let a = c.args in sym (starts_past _ a.s.now a.at c.if-s-a
 
 pub returns-then-set-i : goal.returns-then-set-i
 returns-then-set-i c =
-    let l = c in
-    let a = l.args in
-    sym (starts_at _ a.s.now a.at l.if-s-at.false ∙ l.loop-i.invariant.1
-    ∙ set_hit a.set.now l.loop-i.i (get_or a.s.now a.at 0) (omega arith) c.if-set-i.true)
+    let a = c.args in
+    sym (starts_at _ a.s.now a.at c.if-s-at.false ∙ c.loop-i.invariant.1
+    ∙ set_hit a.set.now c.loop-i.i (get_or a.s.now a.at 0) (omega arith) c.if-set-i.true)
 
 pub loop-i-preserved : goal.loop-i-preserved
 loop-i-preserved c =
-    let l = c in
-    let a = l.args in
-    (omega arith, l.loop-i.invariant.1 ∙ set_next a.set.now l.loop-i.i (get_or a.s.now a.at 0) (omega arith) c.if-set-i.false)
+    let a = c.args in
+    (omega arith, c.loop-i.invariant.1 ∙ set_next a.set.now c.loop-i.i (get_or a.s.now a.at 0) (omega arith) c.if-set-i.false)
 
 pub returns : goal.returns
 returns c =
-    let l = c in
-    let a = l.args in
-    sym (starts_at _ a.s.now a.at l.if-s-at.false ∙ l.loop-i.invariant.1
-    ∙ set_end a.set.now l.loop-i.i (get_or a.s.now a.at 0) (omega arith))
+    let a = c.args in
+    sym (starts_at _ a.s.now a.at c.if-s-at.false ∙ c.loop-i.invariant.1
+    ∙ set_end a.set.now c.loop-i.i (get_or a.s.now a.at 0) (omega arith))

@@ -13,9 +13,7 @@ use Rattle.grammar.proofs.word_at.Goals.{Then-letter_at}
 
 pub letter_at-requires : goal.letter_at-requires
 letter_at-requires c =
-    let l = c in
-    let st = c in
-    let h = span_at 65 90 st.args.w.now l.loop-i.i st.requires (omega arith) in
+    let h = span_at 65 90 c.args.w.now c.loop-i.i c.requires (omega arith) in
     omega arith
 
 more : (c : Then-letter_at) → starts (either (get_or c.args.w.now c.loop-i.i 0)) (drop c.loop-i.at c.args.s.now) ≡ true
@@ -29,22 +27,17 @@ overflow_add-at c = let h = in_text c in omega arith
 
 pub loop-i-preserved : goal.loop-i-preserved
 loop-i-preserved c =
-    let l = c in
-    let a = l.args in
-    (omega arith, l.loop-i.invariant.1 ∙ word_more a.w.now a.s.now l.loop-i.i l.loop-i.at (omega arith) (more c))
+    let a = c.args in
+    (omega arith, c.loop-i.invariant.1 ∙ word_more a.w.now a.s.now c.loop-i.i c.loop-i.at (omega arith) (more c))
 
 pub returns-else-letter_at : goal.returns-else-letter_at
 returns-else-letter_at c =
-    let l = c in
-    let st = c in
-    let a = st.args in
-    l.loop-i.invariant.1
-    ∙ word_stop a.w.now a.s.now l.loop-i.i l.loop-i.at (omega arith) (sym c.letter_at.ensures ∙ c.if-letter_at.false)
+    let a = c.args in
+    c.loop-i.invariant.1
+    ∙ word_stop a.w.now a.s.now c.loop-i.i c.loop-i.at (omega arith) (sym c.letter_at.ensures ∙ c.if-letter_at.false)
 
 pub returns : goal.returns
 returns c =
-    let l = c in
-    let st = c in
-    let a = st.args in
-    l.loop-i.invariant.1
-    ∙ word_end a.w.now (drop l.loop-i.at a.s.now) l.loop-i.i (omega arith)
+    let a = c.args in
+    c.loop-i.invariant.1
+    ∙ word_end a.w.now (drop c.loop-i.at a.s.now) c.loop-i.i (omega arith)
