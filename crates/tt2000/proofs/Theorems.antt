@@ -38,7 +38,7 @@ use Rattle.tt2000.specs.declared.UtcFields.{UtcFields}
 use Rattle.tt2000.specs.declared.UtcAnswer.{UtcAnswer}
 use Rattle.tt2000.specs.declared.Tt2000Answer.{Tt2000Answer}
 use Rattle.tt2000.proofs.Numbers.{Limited, in_bits, too_great, limits}
-use Rattle.tt2000.proofs.Writing.{Second, plain, leap, UtcTime, time_of_lem, on_day_lem, before_1972}
+use Rattle.tt2000.proofs.Writing.{Second, plain, leap, time_of_lem, on_day_lem, before_1972}
 use Rattle.tt2000.proofs.LeapDates.{eve}
 use Rattle.tt2000.proofs.Clock.{clock_order}
 use Rattle.tt2000.proofs.Times.{date_of_fields, second_of_fields, time_of_fields, in_day, fields_back}

@@ -1,6 +1,6 @@
 -- What is written, by the tests that the code makes.
 use mathlib.Core.Path.{◌≡◌, refl, sym, ap, ◌∙◌}
-use mathlib.Core.Bool.{Bool, true, false, ◌&&◌, ◌||◌, cond, true≢false}
+use mathlib.Core.Bool.{Bool, true, false, ◌&&◌, ◌||◌, true≢false}
 use mathlib.Core.List.{List}
 use Prim.Native.Nat.{ℕ, ◌<◌, ◌≤◌}
 use native.Mathlib.Omega.{arith}
@@ -10,7 +10,7 @@ use lib.Signed.{lt_z}
 use borrow.Author.Tests.{leb-false, ltb-true, le-ltb, eqb-true, ne_eqb}
 use Rattle.refusal.specs.declared.Refusal.TheVariants.{ImpossibleField, OutOfRange, MissingDate, Before1972}
 use Rattle.signed.proofs.Tests.{and_parts, both, left_out, right_out, to_false}
-use Rattle.calendar.specs.Calendar.{date, date_of, exists, dropped, in_years}
+use Rattle.calendar.specs.Calendar.{date, date_of, exists, in_years}
 use Rattle.calendar.specs.Order.{earlier}
 use Rattle.calendar.specs.Answers.{is_possible, fault_with}
 use Rattle.calendar.specs.declared.Calendar.TheVariants.{ProlepticGregorian}
