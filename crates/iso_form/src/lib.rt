@@ -71,6 +71,6 @@ pub fn write_form(w: WrittenDate, room: &mut [u8]) -> LengthAnswer
     if room.len() < n {
         return LengthAnswer::Refused(Refusal::NoRoom);
     }
-    bytes::copy(&t[a..], room);
+    byte_slices::copy(&t[a..], room);
     LengthAnswer::Is(n)
 }

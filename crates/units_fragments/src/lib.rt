@@ -66,7 +66,7 @@ fn with_fragment(s: UnitsState, fragment: &[u8]) -> UnitsState
     let count = s.count as usize;
     let n = fitting_after(count, fragment.len());
     let mut bytes = s.bytes;
-    bytes::copy(&fragment[..n], &mut bytes[count..]);
+    byte_slices::copy(&fragment[..n], &mut bytes[count..]);
     UnitsState {
         count: count_after(count, fragment.len()),
         ended: s.ended,
