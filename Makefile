@@ -1,5 +1,5 @@
 # What is done beside `rt`. `make test` is the gate.
-.PHONY: demo test edits hosts compare faults fuzz peers bench docs lib shared loops install uninstall clean help
+.PHONY: demo listing test edits hosts compare faults fuzz peers bench docs lib shared loops install uninstall clean help
 
 ARCHIVE = target/staticlib
 VERSION = $(shell hosts/version)
@@ -12,31 +12,36 @@ LIBDIR = $(PREFIX)/lib
 TO = $(DESTDIR)$(PREFIX)
 LIB = $(DESTDIR)$(LIBDIR)
 
-demo:     # prove and build the program `listing`, and run it on an example
-	@mkdir -p target
-	@echo 'proving listing and what it is made of (some minutes the first time) ...'
-	@rt check listing >target/demo.log 2>&1 || { cat target/demo.log && exit 1; }
-	@tail -n 1 target/demo.log
+demo: listing    # prove and build the program `listing`, and run it on an example
 	@echo '$$ cat crates/listing/stdin' && cat crates/listing/stdin
 	@echo '$$ target/bin/listing < crates/listing/stdin' && target/bin/listing < crates/listing/stdin
+
+listing:  # the program `listing` alone
+	@mkdir -p target/bin
+	@echo 'proving listing and what it is made of (some minutes the first time) ...'
+	@(cd crates/listing && rt run <stdin) >target/listing.out 2>target/listing.log || { cat target/listing.log && exit 1; }
+	@grep '^logic=' target/listing.log || echo 'nothing has changed since it was proved'
+	@install crates/listing/out/listing target/bin/listing
 
 test:     # the gate: every proof, must-fail edits, the programs and the tests from other languages
 	bash .ci/run
 
-edits:    # the must-fail edits that the gate leaves out to stay short: those in must-fail/more/
+edits:    # the must-fail edits that the gate leaves out to stay short: those in must-fail/more/, tried in a copy
 	@echo "edits: first every proof, where it is not current, then $$(ls crates/*/must-fail/more/*.edit | wc -l) edits, each a check of its crate"
-	@rt check
-	@rm -rf target/edits && mkdir -p target/edits/target
-	@cp -R crates crates.txt target/edits && cp -R target/rlib target/stamp target/log target/obj target/edits/target
-	@for crate in target/edits/crates/*; do \
-		rm -f $$crate/must-fail/*.edit; \
-		[ ! -d $$crate/must-fail/more ] || mv $$crate/must-fail/more/*.edit $$crate/must-fail; \
-	done
-	@cd target/edits && rt must-fail
-	@docs/edits.py target/edits/target/must-fail
+	@rt all check
+	@mkdir -p target
+	@to=$$(mktemp -d) && trap 'rm -rf "$$to"' EXIT && cp crates.txt "$$to" && tar -c --exclude=out crates | tar -x -C "$$to" && \
+	for crate in "$$to"/crates/*; do \
+		rm -f "$$crate"/must-fail/*.edit; \
+		[ ! -d "$$crate/must-fail/more" ] || mv "$$crate"/must-fail/more/*.edit "$$crate/must-fail"; \
+	done && \
+	{ cd "$$to" && rt must-fail; } >target/edits.log 2>&1; status=$$?; cat target/edits.log; exit $$status
+	@docs/edits.py target/edits.log
 
 lib: loops    # the archive and the shared object of include/uppinalo.h
-	rt staticlib uppinalo
+	@mkdir -p $(ARCHIVE)
+	cd crates/uppinalo && rt lib
+	install -m 644 crates/uppinalo/out/libuppinalo.a $(ARCHIVE)/libuppinalo.a
 	@$(MAKE) --no-print-directory shared
 
 shared:   # the shared object alone, of an archive that is there
@@ -48,7 +53,7 @@ install:  # what C and Fortran need, and the program `listing`, under PREFIX, wh
 	@[ -e $(ARCHIVE)/libuppinalo.a ] && [ -e $(ARCHIVE)/libuppinalo.so ] || \
 		{ echo 'install: there is no library yet, and none is built here: run `make lib` first' >&2 && exit 1; }
 	@[ -e target/bin/listing ] || \
-		{ echo 'install: there is no program listing yet, and none is built here: run `make demo` first' >&2 && exit 1; }
+		{ echo 'install: there is no program listing yet, and none is built here: run `make listing` first' >&2 && exit 1; }
 	install -D -m 644 include/uppinalo.h '$(TO)/include/uppinalo.h'
 	install -D -m 644 $(ARCHIVE)/libuppinalo.a '$(LIB)/libuppinalo.a'
 	install -D -m 755 $(ARCHIVE)/libuppinalo.so '$(LIB)/libuppinalo.so.$(VERSION)'

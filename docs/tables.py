@@ -20,15 +20,15 @@ DOCUMENTS = ["docs/TRUST.md", "docs/ARCHITECTURE.md", "docs/DECISIONS.md", "READ
 # the crates with public calls, and how such a call begins
 PUBLIC = {"uppinalo": 'pub extern "C" fn', "listing_line": "pub fn"}
 STATED = ["uppinalo/specs/Demands.antt", "cases/specs/Cases.antt"]
-CITED = re.compile(r"^(?:ghost )?use Rattle·(\w+)(?:·specs|·proofs)?\.(specs|proofs)\.([\w.-]+?)(?:\.\{([^}]*)\}| as \w+);?$", re.MULTILINE)
-KIT = re.compile(r"^use (?!Rattle·)([\w.]+?)(?:\.\{| as )", re.MULTILINE)
+CITED = re.compile(r"^(?:ghost |pub )?use Rattle\.(\w+)\.(specs|proofs)\.([\w.-]+?)(?:\.\{([^}]*)\}| as \w+);?$", re.MULTILINE)
+USED = re.compile(r"^(?:pub )?use ([\w.]+?)(?:\.\{| as )", re.MULTILINE)
 
 
 def listed():
     """The crates in the order of crates.txt, each with the crates that it knows."""
     lines = (ROOT / "crates.txt").read_text().splitlines()
     pairs = (line.split(":") for line in lines if line.strip() and not line.startswith("#"))
-    return {name.strip(): known.split() for name, known in pairs}
+    return {name.split()[0]: known.split() for name, known in pairs}
 
 
 def first_sentence(path, mark):
@@ -91,7 +91,9 @@ def trust(crates):
     specs = [path for crate in crates for path in specs_of(crate)]
     rows = [[f"`{path.relative_to(CRATES)}`", first_sentence(path, "--")] for path in specs if path in needed]
     rest = [path for path in specs if path not in needed]
-    kit = sorted({module for path in needed for module in KIT.findall(path.read_text())})
+    own = tuple(f"Rattle.{crate}." for crate in crates)
+    used = {module for path in needed for module in USED.findall(path.read_text())}
+    kit = sorted(module for module in used if not module.startswith(own))
     return (
         table(["file", "what it says"], rows)
         + f"\nThey use these modules of the kit: {', '.join(f'`{module}`' for module in kit)}.\n"

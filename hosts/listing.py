@@ -168,6 +168,13 @@ class Failures(unittest.TestCase):
     def test_nothing_taken(self):
         self.assertEqual(run_with("nothing", ASKED), (b"", "listing: standard output: Nothing was taken\n"))
 
+    def test_status(self):
+        """The exit status is 1 after a failure, also where it cannot be told."""
+        for redirections, status in [(">/dev/full", 1), ("</", 1), ("</ 2>&-", 1), (">/dev/null", 0)]:
+            command = ["sh", "-c", f'exec "$0" {redirections}', PROGRAM]
+            done = subprocess.run(command, input=ASKED, capture_output=True, timeout=SECONDS, check=False)
+            self.assertEqual(done.returncode, status, redirections)
+
 
 class Pauses(unittest.TestCase):
     """Who sends lines and waits gets the answers to all of them, while the input stays open."""

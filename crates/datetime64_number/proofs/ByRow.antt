@@ -18,7 +18,7 @@ use Rattle.calendar.specs.declared.Date.{Date}
 use Rattle.calendar.proofs.Theorems.{dates_exist}
 use Rattle.instant.specs.Instant.{day_of, time_of, in_range}
 use Rattle.instant.proofs.Range.{small}
-use Rattle.step.specs.Steps.{steps, date_after}
+use Rattle.step.specs.Steps.{date_after}
 use Rattle.step.specs.declared.Part.{Part}
 use Rattle.step.proofs.Theorems.{steps_exist}
 use Rattle.axis_types.specs.declared.Reading.{Reading}

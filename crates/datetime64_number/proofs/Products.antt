@@ -4,8 +4,8 @@ use Prim.Native.Nat.{ℕ, ◌+◌, ◌-◌, ◌*◌, ◌/◌, ◌≤◌, ◌<◌
 use native.Mathlib.Nat.{add-mul, div-mul-le_self, le-div_iff_mul-le, eq_of_mul-eq-mul_right, mul-le-mul_right}
 use native.Mathlib.Omega.{arith}
 use native.Mathlib.Decide.{dec_le}
-use lib.IntN.{ℤ, pos, sub_ℕ, ◌+ℤ◌, ◌*ℤ◌, +ℤ_idr}
-use Rattle.signed.specs.Bias.{biased, unbiased}
+use lib.IntN.{pos, sub_ℕ, ◌*ℤ◌, +ℤ_idr}
+use Rattle.signed.specs.Bias.{unbiased}
 use Rattle.signed.proofs.Differences.{same_diff, sub_inj, times_plus}
 use Rattle.ratio.specs.Multiples.{Place}
 

@@ -90,5 +90,5 @@ pub fn put_number(order: ByteOrder, bytes: &mut [u8], i: usize, n: i64)
     ensures { bytes.new ≡ take (8 * i) bytes.old ++ (record_of order n ++ drop (8 * i + 8) bytes.old) }
 {
     let r = record_of(order, n);
-    bytes::copy(&r, &mut bytes[8 * i..8 * i + 8]);
+    byte_slices::copy(&r, &mut bytes[8 * i..8 * i + 8]);
 }

@@ -1,6 +1,6 @@
 -- From the nearest displacement of a double, as crate `double` gives it, to its reading.
 use mathlib.Core.Path.{◌≡◌, refl, sym, ◌∙◌, subst}
-use mathlib.Core.Bool.{Bool, true, false, false≢true}
+use mathlib.Core.Bool.{Bool, true, false≢true}
 use Prim.Native.Nat.{ℕ, ◌<◌, ◌^◌}
 use native.Mathlib.Nat.{le_trans, le_of_eq}
 use lib.Dec.{eqb}

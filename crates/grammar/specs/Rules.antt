@@ -37,10 +37,10 @@ abbrev pub ◌⇒◌ : {A B : Type 0} → Grammar A → Grammar B → Grammar B
 abbrev pub digit : Class
 digit = range "0" "9"
 
--- the number that a text writes to a base, after digits that write n; `zero` is the byte of the digit 0
+-- the number that a text writes to a base, after digits that write n; `nought` is the byte of the digit 0
 abbrev pub numeral : ℕ → ℕ → ℕ → List ℕ → ℕ
-numeral base zero n [] = n
-numeral base zero n (b ∷ s) = numeral base zero (n * base + (b - zero)) s
+numeral base nought n [] = n
+numeral base nought n (b ∷ s) = numeral base nought (n * base + (b - nought)) s
 
 abbrev pub decimal : ℕ → List ℕ → ℕ
 decimal n s = numeral 10 48 n s

@@ -4,10 +4,15 @@
 // answer gets it. A read or a write that fails ends the program, which tells the system's reason on standard error.
 #![tactic(auto)]
 
-ghost use Rattle.std.specs.Prelude.{◌≡◌, ◌≤◌, length};
+ghost use Rattle.std.specs.Prelude.{◌≤◌, length, IfOk};
 
+mod failure;
 mod input;
 mod output;
+
+use failure::{Failure, try_again};
+use std::io::{Read, Write};
+use std::process::ExitCode;
 
 // How many bytes of a line are gathered, and whether nothing more is read.
 #[derive(Drop)]
@@ -22,49 +27,25 @@ fn least(a: usize, b: usize) -> usize
     if a < b { a } else { b }
 }
 
-// After a read or a write that failed: whether it is to be tried again, since it was interrupted or would have had to wait. Where it is
-// not, the reason is told. Nothing may come between the call that failed and this one, which asks for its `errno`.
-fn try_again(what: &[u8]) -> bool {
-    let error = os::errno();
-    if error == libc::EINTR {
-        return true;
-    }
-    if error == libc::EAGAIN {
-        if libc::sched_yield() == 0 {
-            return true;
-        }
-    }
-    os::fail(what);
-    false
-}
-
-// The end after a failure: of a line that was cut off nothing is answered.
-fn stopped() -> Step
-    ensures { result.gathered ≡ 0 }
+// Writes out the answers that are left, and more may be read. After a write that failed nothing is answered of a line that was cut off.
+fn written<W: Write>(to: &mut W, out: &[u8], used: usize, gathered: usize) -> Result<usize, Failure>
+    ensures { IfOk result (λ n. n ≤ gathered) }
 {
-    Step {
-        gathered: 0,
-        is_last: true,
-    }
-}
-
-// Writes out the answers that are left, and more may be read.
-fn written(out: &[u8], used: usize, gathered: usize) -> Step
-    ensures { result.gathered ≤ gathered }
-{
-    if output::flush(out, used) {
-        return Step {
-            gathered,
-            is_last: false,
-        };
-    }
-    stopped()
+    output::flush(to, out, used)?;
+    Ok(gathered)
 }
 
 // The bytes of one read: each newline ends a line, the first of which may have begun before; what follows the last newline is gathered.
-fn feed(chunk: &[u8], line: &mut [u8], out: &mut [u8], begun: usize) -> Step
+// Answers how many bytes are gathered then.
+fn feed<W: Write>(
+    to: &mut W,
+    chunk: &[u8],
+    line: &mut [u8],
+    out: &mut [u8],
+    begun: usize,
+) -> Result<usize, Failure>
     requires { (64 ≤ length out.old) × (begun ≤ length line.old) }
-    ensures { result.gathered ≤ length line.old }
+    ensures { IfOk result (λ n. n ≤ length line.old) }
 {
     let mut gathered = begun;
     let mut used: usize = 0;
@@ -73,79 +54,102 @@ fn feed(chunk: &[u8], line: &mut [u8], out: &mut [u8], begun: usize) -> Step
         let end = input::newline_from(chunk, i);
         gathered = input::gather(line, gathered, &chunk[i..end]);
         if end == chunk.len() {
-            return written(out, used, gathered);
+            return written(to, out, used, gathered);
         }
-        let room = output::make_room(out, used);
-        if room.has_failed {
-            return stopped();
-        }
-        used = output::answer(line, gathered, out, room.at);
+        let at = output::make_room(to, out, used)?;
+        used = output::answer(line, gathered, out, at);
         gathered = 0;
         i = end + 1;
     }
-    written(out, used, gathered)
+    written(to, out, used, gathered)
 }
 
 // One read, and what it brought.
-fn turn(buffer: &mut [u8], line: &mut [u8], out: &mut [u8], gathered: usize) -> Step
+fn turn<R: Read, W: Write>(
+    from: &mut R,
+    to: &mut W,
+    buffer: &mut [u8],
+    line: &mut [u8],
+    out: &mut [u8],
+    gathered: usize,
+) -> Result<Step, Failure>
     requires { (64 ≤ length out.old) × (gathered ≤ length line.old) }
-    ensures { result.gathered ≤ length line.old }
+    ensures { IfOk result (λ step. step.gathered ≤ length line.old) }
 {
-    let got = libc::read(0, buffer);
-    if got < 0 {
-        if try_again(b"listing: standard input") {
-            return Step {
-                gathered,
-                is_last: false,
-            };
-        }
-        return stopped();
-    }
-    if got == 0 {
-        return Step {
+    match from.read(buffer) {
+        Ok(0) => Ok(Step {
             gathered,
             is_last: true,
-        };
+        }),
+        Ok(n) => {
+            let gathered = feed(to, &buffer[..n], line, out, gathered)?;
+            Ok(Step {
+                gathered,
+                is_last: false,
+            })
+        }
+        Err(error) => {
+            if try_again(&error) {
+                return Ok(Step {
+                    gathered,
+                    is_last: false,
+                });
+            }
+            Err(Failure::Input(error))
+        }
     }
-    let start: usize = 0;
-    let n = io::count(got, buffer);
-    feed(&buffer[start..n], line, out, gathered)
 }
 
 // All of the input; answers how many bytes of a last line without a newline are left. Nothing says that an input ends, so the reads are
-// counted down, from a number that no run uses up.
-fn run(buffer: &mut [u8], line: &mut [u8], out: &mut [u8]) -> usize
+// counted, to a number that no run reaches.
+fn run<R: Read, W: Write>(
+    from: &mut R,
+    to: &mut W,
+    buffer: &mut [u8],
+    line: &mut [u8],
+    out: &mut [u8],
+) -> Result<usize, Failure>
     requires { 64 ≤ length out.old }
-    ensures { result ≤ length line.old }
+    ensures { IfOk result (λ n. n ≤ length line.old) }
 {
     let mut gathered: usize = 0;
-    let mut turns = u64::MAX;
-    while turns > 0 {
-        let step = turn(buffer, line, out, gathered);
+    for _ in 0..u64::MAX {
+        let step = turn(from, to, buffer, line, out, gathered)?;
         gathered = step.gathered;
         if step.is_last {
-            return gathered;
+            return Ok(gathered);
         }
-        turns -= 1;
     }
-    gathered
+    Ok(gathered)
 }
 
-// The last line, where it lacks its newline. A write that fails is told by then, and nothing comes after it.
-fn finish(line: &[u8], out: &mut [u8], gathered: usize)
+// The last line, where it lacks its newline.
+fn finish<W: Write>(to: &mut W, line: &[u8], out: &mut [u8], gathered: usize) -> Result<(), Failure>
     requires { (64 ≤ length out.old) × (gathered ≤ length line.now) }
 {
     if gathered == 0 {
-        return;
+        return Ok(());
     }
     let used = output::answer(line, gathered, out, 0);
-    output::flush(out, used);
+    output::flush(to, out, used)
 }
 
-fn main() {
+// The whole listing, from what is read to what is written.
+fn list<R: Read, W: Write>(from: &mut R, to: &mut W) -> Result<(), Failure> {
     let mut buffer = [0u8; 65536];
     let mut line = [0u8; 256];
     let mut out = [0u8; 65536];
-    let gathered = run(&mut buffer, &mut line, &mut out);
-    finish(&line, &mut out, gathered);
+    let gathered = run(from, to, &mut buffer, &mut line, &mut out)?;
+    finish(to, &line, &mut out, gathered)
+}
+
+fn main(rt: HostRuntime) -> ExitCode {
+    match list(&mut rt.stdin(), &mut rt.stdout()) {
+        Ok(()) => ExitCode::SUCCESS,
+        Err(failure) => {
+            // to nobody where standard error takes nothing either
+            let _ = failure.tell(&rt.stderr());
+            ExitCode::FAILURE
+        }
+    }
 }

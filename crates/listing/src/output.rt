@@ -1,65 +1,50 @@
 // Answers gathered in a buffer, and the buffer written out.
-ghost use Rattle.std.specs.Prelude.{◌≡◌, ◌+◌, ◌≤◌, length};
+ghost use Rattle.std.specs.Prelude.{◌≡◌, ◌+◌, ◌≤◌, length, IfOk};
 ghost use Rattle.iso_form.specs.Form.{over};
 ghost use Rattle.listing_line.specs.Line.{line_text};
 
+use crate::failure::{Failure, try_again};
 use iso_form::LengthAnswer;
+use std::io;
+use std::io::{ErrorKind, Write};
 
-// Where in the buffer there is room for an answer, and whether the write failed that was to make it.
-#[derive(Drop)]
-pub(crate) struct Room {
-    pub(crate) at: usize,
-    pub(crate) has_failed: bool,
+// A write that took nothing and names no error has none to wait for, and is not tried again.
+fn nothing_taken() -> Failure {
+    Failure::Output(io::Error::new(ErrorKind::WriteZero, "Nothing was taken"))
 }
 
-// After a write that took nothing: whether it is to be tried again. Where it is not, the reason is told, to nobody where standard error
-// takes nothing either. A write that names no error has none to wait for, and is not tried again.
-fn write_again(took: isize) -> bool {
-    if took < 0 {
-        return crate::try_again(b"listing: standard output");
-    }
-    io::write_all(
-        libc::STDERR_FILENO,
-        b"listing: standard output: Nothing was taken\n",
-    );
-    false
-}
-
-// Writes out the first bytes of the buffer, and answers whether all of them were taken; where they were not, the reason is told. A write may
-// take a part, and the next one goes on with the rest. The writes are counted down, from a number that no run uses up.
-pub(crate) fn flush(out: &[u8], used: usize) -> bool {
+// Writes out the first bytes of the buffer. A write may take a part, and the next one goes on with the rest. The writes are counted, to a
+// number that no run reaches.
+pub(crate) fn flush<W: Write>(to: &mut W, out: &[u8], used: usize) -> Result<(), Failure> {
     let end = crate::least(used, out.len());
     let mut done: usize = 0;
-    let mut turns = u64::MAX;
-    while turns > 0 {
+    for _ in 0..u64::MAX {
         if done == end {
-            return true;
+            return Ok(());
         }
-        let took = libc::write(1, &out[done..end]);
-        if took <= 0 {
-            if !write_again(took) {
-                return false;
+        match to.write(&out[done..end]) {
+            Ok(0) => return Err(nothing_taken()),
+            Ok(n) => done += n,
+            Err(error) => {
+                if !try_again(&error) {
+                    return Err(Failure::Output(error));
+                }
             }
         }
-        done += io::count(took, &out[done..end]);
-        turns -= 1;
     }
-    false
+    Err(nothing_taken())
 }
 
-// Room for the next answer: the buffer is written out where too little is left of it.
-pub(crate) fn make_room(out: &[u8], used: usize) -> Room
+// Room for the next answer, and where in the buffer it is: the buffer is written out where too little is left of it.
+pub(crate) fn make_room<W: Write>(to: &mut W, out: &[u8], used: usize) -> Result<usize, Failure>
     requires { 64 ≤ length out.now }
-    ensures { result.at + 64 ≤ length out.now }
+    ensures { IfOk result (λ at. at + 64 ≤ length out.now) }
 {
     if used <= out.len() - 64 {
-        return Room {
-            at: used,
-            has_failed: false,
-        };
+        return Ok(used);
     }
-    let has_failed = !flush(out, used);
-    Room { at: 0, has_failed }
+    flush(to, out, used)?;
+    Ok(0)
 }
 
 // The answer to a line, at the front of room that is enough for any.

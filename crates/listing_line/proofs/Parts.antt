@@ -7,7 +7,7 @@ use mathlib.Core.List.{List, [], ◌∷◌}
 use lib.Dec.{eqb}
 use lib.ListN.{length, take, drop, length-drop}
 use lib.Seq.{take_all, take-length, drop-drop}
-use Rattle.bytes.specs.Bytes.{slice, index_after, index_of}
+use Rattle.byte_slices.specs.Bytes.{slice, index_after, index_of}
 use Rattle.refusal.specs.declared.Refusal.TheVariants.{IllFormed}
 use Rattle.listing_line.specs.declared.LineAnswer.{LineAnswer}
 use Rattle.listing_line.specs.Line.{on_first, parted, of_parts}

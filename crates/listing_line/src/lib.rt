@@ -13,7 +13,7 @@ ghost use Rattle.listing_line.specs.Closed.{BarsOf};
 
 use axis_text::AxisAnswer;
 use axis_types::{Offset, Reading};
-use bytes::scan::find;
+use byte_slices::find;
 use calendar::Calendar;
 use iso_form::LengthAnswer;
 use offset_text::OffsetText;
@@ -102,7 +102,7 @@ fn put(text: &[u8], room: &mut [u8]) -> LengthAnswer
     if room.len() < text.len() {
         return LengthAnswer::Refused(Refusal::NoRoom);
     }
-    let n = bytes::copy(text, room);
+    let n = byte_slices::copy(text, room);
     return LengthAnswer::Is(n);
 }
 
@@ -151,9 +151,9 @@ fn put_end(exact: bool, room: &mut [u8]) -> usize
     ensures room_after { room.new ≡ over (rounded_text exact ++ newline) room.old }
 {
     if exact {
-        return bytes::copy(b"\n", room);
+        return byte_slices::copy(b"\n", room);
     }
-    return bytes::copy(b" rounded\n", room);
+    return byte_slices::copy(b" rounded\n", room);
 }
 
 // Puts ISO text and what stands after it into room that is long enough.

@@ -7,6 +7,7 @@
 ghost use Rattle.std.specs.Prelude.{◌+◌, ◌≤◌, ◌<◌, length};
 
 use calendar::{Calendar, Date, DayAnswer};
+use std::io;
 
 const ZERO: u64 = 0x8000_0000_0000_0000;
 
@@ -110,44 +111,42 @@ fn put_letter(c: Calendar, y: u64, letters: &mut [u8], n: usize) -> usize
 }
 
 // A number that is held as its sum with 2^63, and a space.
-fn print_signed(k: u64) {
+fn print_signed(to: &impl Print, k: u64) -> io::Result<()> {
     if k < ZERO {
-        io::write_all(1, b"-");
-        io::print_decimal(1, ZERO - k);
-    } else {
-        io::print_decimal(1, k - ZERO);
+        return print!(to; "-{} ", ZERO - k);
     }
-    io::write_all(1, b" ");
+    print!(to; "{} ", k - ZERO)
 }
 
-fn print_century(c: Calendar, name: &[u8], from: u64)
+fn print_century(to: &impl Print, c: Calendar, name: &[u8], from: u64) -> io::Result<()>
     requires { from ≤ 19900 }
 {
     let mut letters = [0u8; 100];
     let n = put_letters(c, from, &mut letters);
     let first = year_from(c, from);
-    io::write_all(1, name);
-    io::write_all(1, b" ");
-    print_signed(ZERO - 10000 + first);
-    print_signed(day(c, first, 1, 1));
+    to.write_all(name)?;
+    to.write_all(b" ")?;
+    print_signed(to, ZERO - 10000 + first)?;
+    print_signed(to, day(c, first, 1, 1))?;
     let start: usize = 0;
-    io::write_all(1, &letters[start..n]);
-    io::write_all(1, b"\n");
+    to.write_all(&letters[start..n])?;
+    to.write_all(b"\n")
 }
 
-fn print_calendar(c: Calendar, name: &[u8]) {
+fn print_calendar(to: &impl Print, c: Calendar, name: &[u8]) -> io::Result<()> {
     let mut century: u64 = 0;
     while century < 200 {
-        print_century(c, name, century * 100);
+        print_century(to, c, name, century * 100)?;
         century += 1;
     }
+    Ok(())
 }
 
-fn main() {
-    print_calendar(Calendar::Standard(0), b"standard");
-    print_calendar(Calendar::ProlepticGregorian, b"proleptic_gregorian");
-    print_calendar(Calendar::Julian, b"julian");
-    print_calendar(Calendar::NoLeap, b"noleap");
-    print_calendar(Calendar::AllLeap, b"all_leap");
-    print_calendar(Calendar::Day360, b"360_day");
+fn main(rt: HostRuntime) -> io::Result<()> {
+    print_calendar(&rt, Calendar::Standard(0), b"standard")?;
+    print_calendar(&rt, Calendar::ProlepticGregorian, b"proleptic_gregorian")?;
+    print_calendar(&rt, Calendar::Julian, b"julian")?;
+    print_calendar(&rt, Calendar::NoLeap, b"noleap")?;
+    print_calendar(&rt, Calendar::AllLeap, b"all_leap")?;
+    print_calendar(&rt, Calendar::Day360, b"360_day")
 }

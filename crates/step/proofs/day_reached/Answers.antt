@@ -87,17 +87,17 @@ module _ (b : After-biased-k) where
 pub returns-then-k : goal.returns-then-k
 returns-then-k c =
     let b = (goal.at.returns-then-k c).After-biased-k in
-    let s = c in
-    past b (unbiased (k b)) refl (year_before_lem s.args.c s.args.x s.args.y s.requires s.args.part (k b) 9223372036854775808 (omega (arith, far_below s.args.part (count b) (k b) (small b) c.if-k.true)))
+    let a = c.args in
+    past b (unbiased (k b)) refl (year_before_lem a.c a.x a.y c.requires a.part (k b) 9223372036854775808 (omega (arith, far_below a.part (count b) (k b) (small b) c.if-k.true)))
 
 pub returns-then-k-2 : goal.returns-then-k-2
 returns-then-k-2 c =
     let b = (goal.at.returns-then-k-2 c).After-biased-k in
-    let s = c in
-    past b (unbiased (k b)) refl (year_past s.args.c s.args.x s.args.y s.requires s.args.part (k b) 9223372036854775808 (far_above s.args.part (count b) (k b) c.if-k-2.true))
+    let a = c.args in
+    past b (unbiased (k b)) refl (year_past a.c a.x a.y c.requires a.part (k b) 9223372036854775808 (far_above a.part (count b) (k b) c.if-k-2.true))
 
 pub month_count-requires : goal.month_count-requires
-month_count-requires c = let s = c in month_inside s.args.c s.args.x s.args.y s.requires
+month_count-requires c = let a = c.args in month_inside a.c a.x a.y c.requires
 
 pub month_after-j-requires : goal.month_after-j-requires
 month_after-j-requires c = (omega (arith, c.month_count.ensures, small (goal.at.month_after-j-requires c).After-biased-k), (c.if-k.false, c.if-k-2.false))

@@ -14,10 +14,9 @@ use Rattle.step.proofs.leads_to.Goals.{After-day_down}
 -- the asked day is that of d, which exists
 pub returns-then-day-d : goal.returns-then-day-d
 returns-then-day-d c =
-    let s = c in
-    let a = s.args in
+    let a = c.args in
     let e : a.day ≡ a.d.day = c.if-day-d.true in
-    sym (eq-eqb (down_to a.c a.d.year a.d.month a.day) a.d.day (here a.c a.d.year a.d.month a.day (ap (λ (k : ℕ). exists a.c (date a.d.year a.d.month k)) e ∙ s.requires.date.there) ∙ e))
+    sym (eq-eqb (down_to a.c a.d.year a.d.month a.day) a.d.day (here a.c a.d.year a.d.month a.day (ap (λ (k : ℕ). exists a.c (date a.d.year a.d.month k)) e ∙ c.requires.date.there) ∙ e))
 
 -- the days passed from the asked one
 module _ (a : After-day_down) where

@@ -22,6 +22,6 @@ told n r e = subst (Counted n.has_year_zero.result (unbiased n.biased.result)) e
 pub returns-in-Missing : goal.returns-in-Missing
 returns-in-Missing c =
     let n = (goal.at.returns-in-Missing c).After-year_count in
-    let s = c in
+    let a = c.args in
     let h = told n YearCount.Missing c.in-Missing.is in
-    absurd (true≢false (sym (no_year_lem s.args.c s.args.x.year (sym n.has_year_zero.ensures ∙ h.0) (sym (year_is (goal.at.returns-in-Missing c).After-biased) ∙ h.1)) ∙ valid_year s.args.c s.args.x (valid_of s.args.c s.args.x s.requires.there)))
+    absurd (true≢false (sym (no_year_lem a.c a.x.year (sym n.has_year_zero.ensures ∙ h.0) (sym (year_is (goal.at.returns-in-Missing c).After-biased) ∙ h.1)) ∙ valid_year a.c a.x (valid_of a.c a.x c.requires.there)))

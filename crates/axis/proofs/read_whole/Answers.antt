@@ -1,0 +1,33 @@
+-- `axis::read_whole` meets its contract: the check of the axis first.
+use mathlib.Core.Path.{◌≡◌, sym, ap, ◌∙◌}
+use lib.IntN.{ℤ}
+use mir.Syntax.{w64}
+use mir.ValLaws.{to_z-of_z}
+use Rattle.axis_types.specs.Reading.{with_days_back}
+use Rattle.axis_types.specs.declared.Axis.{Axis}
+use Rattle.axis_types.specs.declared.OffsetReading.{OffsetReading}
+use Rattle.axis_types.specs.declared.Reading.{Reading}
+use Rattle.axis.specs.Axis.{on_good, whole_on, read_whole_on, whole_back}
+use Rattle.axis.specs.declared.AxisCheck.{AxisCheck}
+use Rattle.axis.proofs.Laws.{in_good}
+use Rattle.axis.proofs.read_whole.Goals as goal
+use Rattle.axis.proofs.read_whole.Goals.{After-check_axis}
+
+-- by the check
+abbrev read : Axis → ℤ → AxisCheck → OffsetReading
+read a n k = with_days_back (on_good k Reading.Refused (whole_on a n)) (whole_back a n)
+
+settled : (k : After-check_axis) (a : AxisCheck) → k.check_axis.result ≡ a → read k.args.axis k.args.n a ≡ with_days_back (read_whole_on k.args.axis k.args.n) (whole_back k.args.axis k.args.n)
+unfolding read_whole_on
+settled k a e = ap (read k.args.axis k.args.n) (sym e ∙ k.check_axis.ensures)
+
+pub returns-in-Refused : goal.returns-in-Refused
+returns-in-Refused c = c.unmoved.ensures ∙ settled (goal.at.returns-in-Refused c).After-check_axis _ c.in-Refused.is
+
+pub read_whole_on-requires : goal.read_whole_on-requires
+read_whole_on-requires c = in_good c.args.axis (sym c.in-Good.is ∙ c.check_axis.ensures)
+
+pub returns-in-Good : goal.returns-in-Good
+returns-in-Good c =
+    let k = (goal.at.returns-in-Good c).After-check_axis in
+    c.read_whole_on.ensures ∙ (ap (λ (z : ℤ). read k.args.axis z AxisCheck.Good) (to_z-of_z w64 k.args.n k.ranges.n) ∙ settled k _ c.in-Good.is)
