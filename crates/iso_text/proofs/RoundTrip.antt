@@ -1,6 +1,6 @@
 -- The round trip: reading the text of an instant gives the instant, in every calendar and for every instant in the years -9999 to 9999.
 -- So no two instants of one calendar share a text.
-use Prim.Native.Nat.{ℕ, ◌-◌, ◌≤◌}
+use Prim.Native.Nat.{ℕ, ◌≤◌}
 use native.Mathlib.Omega.{arith}
 use mathlib.Core.Path.{◌≡◌, refl, sym, ap, subst, ◌∙◌}
 use mathlib.Core.List.{List}
