@@ -1,4 +1,5 @@
 -- `calendar_name::short_name` meets its contract. The name's number is looked up in the table: the keys of an arm all stand for the
+-- arm's calendar, and a number that is no key of any arm is in no row.
 use native.Mathlib.Omega.{arith}
 use mathlib.Core.Path.{◌≡◌, refl, sym, ap, ◌∙◌}
 use mathlib.Core.List.{[], ◌∷◌}
