@@ -32,11 +32,10 @@ module _ (c : After-scale_of-s) where
   most_le = subst (λ (n : ℕ). n ≤ 2 ^ 60) (sym most_is) (few s c.scale_of-s.ensures.1 short)
 
 -- an answer for the offset biased by 2^63 is one for the offset
-answered : (b : After-biased-k) (t : Bool) → let q = b.before.before in Reaches t (s q).micros (unbiased b.biased-k.result) → Reaches t (length_of q.args.p) q.args.n
+answered : (b : After-biased-k) (t : Bool) → Reaches t b.scale_of-s.result.micros (unbiased b.biased-k.result) → Reaches t (length_of b.args.p) b.args.n
 answered b t r =
-    let q = b.before.before in
-    subst (λ (P : ℕ). Reaches t P q.args.n) q.scale_of-s.ensures.0
-    (subst (λ (z : ℤ). Reaches t (s q).micros z) (crossed q.args.n b.biased-k.result q.ranges.n b.biased-k.ensures) r)
+    subst (λ (P : ℕ). Reaches t P b.args.n) b.scale_of-s.ensures.0
+    (subst (λ (z : ℤ). Reaches t b.scale_of-s.result.micros z) (crossed b.args.n b.biased-k.result b.ranges.n b.biased-k.ensures) r)
 
 pub returns-then-k-most : goal.returns-then-k-most
 returns-then-k-most c =

@@ -17,11 +17,10 @@ use Rattle.fixed_axis.proofs.Displacements.{times_size, too_far}
 use Rattle.fixed_axis.proofs.read_whole.Goals as goal
 use Rattle.fixed_axis.proofs.read_whole.Goals.{After-reaches}
 
-said : (b : After-reaches) {s : Bool} → b.reaches.result ≡ s → let a = b.before in Reaches s (length_of a.args.p) a.args.n
+said : (b : After-reaches) {s : Bool} → b.reaches.result ≡ s → Reaches s (length_of b.args.p) b.args.n
 said b {s} e =
-    let a = b.before in
-    subst (λ (t : Bool). Reaches t (length_of a.args.p) a.args.n) e
-    (subst (λ (z : ℤ). Reaches b.reaches.result (length_of a.args.p) z) (to_z-of_z w64 a.args.n a.ranges.n) b.reaches.ensures)
+    subst (λ (t : Bool). Reaches t (length_of b.args.p) b.args.n) e
+    (subst (λ (z : ℤ). Reaches b.reaches.result (length_of b.args.p) z) (to_z-of_z w64 b.args.n b.ranges.n) b.reaches.ensures)
 
 pub time_at-requires : goal.time_at-requires
 time_at-requires c =

@@ -16,9 +16,8 @@ settled : (d : After-date_of_biased_day) (a : DateAnswer) → d.date_of_biased_d
 unfolding fields_answer
 settled d a e =
     let s = d.day_and_time-s in
-    let a = d.before.before in
-    let t = to_z-of_z w64 a.args.t a.ranges.t in
-    λ i. with_time ((sym e ∙ (d.date_of_biased_day.ensures ∙ ap (date_answer a.args.c) (s.ensures.0 ∙ ap day_of t))) i) ((s.ensures.1 ∙ ap time_of t) i)
+    let t = to_z-of_z w64 d.args.t d.ranges.t in
+    λ i. with_time ((sym e ∙ (d.date_of_biased_day.ensures ∙ ap (date_answer d.args.c) (s.ensures.0 ∙ ap day_of t))) i) ((s.ensures.1 ∙ ap time_of t) i)
 
 pub returns-in-Refused : goal.returns-in-Refused
 returns-in-Refused c = settled (goal.at.returns-in-Refused c).After-date_of_biased_day (DateAnswer.Refused c.in-Refused.r) c.in-Refused.is

@@ -1,9 +1,9 @@
 -- `runs::read_doubles` meets its contract: the answer and the destination by what the run comes to.
+use mathlib.Core.Path.{◌≡◌, sym, ◌∙◌}
 use mathlib.Core.List.{List}
 use Prim.Native.Nat.{ℕ}
 use lib.Ieee.{Float}
 use Rattle.axis_types.specs.declared.Axis.{Axis}
-use mathlib.Core.Path.{◌≡◌, sym, ◌∙◌}
 use lib.ListN.{length}
 use Rattle.axis.specs.Axis.{read_double_on, axis_check}
 use Rattle.runs.specs.declared.Check.{Check}
