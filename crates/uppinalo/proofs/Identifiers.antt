@@ -21,7 +21,6 @@ use Rattle.axis_types.specs.declared.OffsetAnswer.{OffsetAnswer}
 use Rattle.run_ends.specs.Each.{Each}
 use Rattle.runs.specs.Run.{after, first_refused, checked, check_answer}
 use Rattle.runs.specs.declared.Check.{Check}
-use Rattle.datetime64_type.specs.Identifier.{identifier}
 use Rattle.datetime64_type.specs.Units.{unit_row_of}
 use Rattle.datetime64_type.specs.declared.Datetime64Type.{Datetime64Type}
 use Rattle.datetime64_type.specs.declared.UnitRow.{UnitRow}

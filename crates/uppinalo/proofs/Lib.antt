@@ -1,4 +1,3 @@
-pub mod OverState
 pub mod SoFar
 pub mod Boundary
 pub mod Unnamed

@@ -1,6 +1,6 @@
 -- TT2000 with leap seconds: what the crate `tt2000` proves, of the calls.
 use mathlib.Core.Path.{◌≡◌, refl, sym, ap, ◌∙◌}
-use mathlib.Core.Bool.{Bool, true, false, ◌&&◌, cond, true≢false}
+use mathlib.Core.Bool.{Bool, true, false, ◌&&◌, true≢false}
 use mathlib.Core.List.{List}
 use mathlib.Core.Logic.{◌↔◌}
 use Prim.Native.Nat.{ℕ, suc, ◌+◌, ◌<◌, ◌≤◌}
@@ -16,7 +16,7 @@ use Rattle.refusal.proofs.Numbers.{not_success}
 use Rattle.signed.proofs.Tests.{and_parts, both}
 use Rattle.signed.proofs.Differences.{sub_lt}
 use Rattle.signed.proofs.Integers.{plus_difference}
-use Rattle.calendar.specs.Calendar.{date, date_of, exists}
+use Rattle.calendar.specs.Calendar.{date, exists}
 use Rattle.calendar.specs.Order.{earlier}
 use Rattle.calendar.specs.Answers.{is_possible}
 use Rattle.calendar.specs.declared.Calendar.TheVariants.{ProlepticGregorian}
