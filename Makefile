@@ -26,16 +26,10 @@ listing:  # the program `listing` alone
 test:     # the gate: every proof, must-fail edits, the programs and the tests from other languages
 	bash .ci/run
 
-edits:    # the must-fail edits that the gate leaves out to stay short: those in must-fail/more/, tried in a copy
-	@echo "edits: first every proof, where it is not current, then $$(ls crates/*/must-fail/more/*.edit | wc -l) edits, each a check of its crate"
-	@rt all check
+edits:    # the must-fail edits alone, over what is proved
 	@mkdir -p target
-	@to=$$(mktemp -d) && trap 'rm -rf "$$to"' EXIT && cp crates.txt "$$to" && tar -c --exclude=out crates | tar -x -C "$$to" && \
-	for crate in "$$to"/crates/*; do \
-		rm -f "$$crate"/must-fail/*.edit; \
-		[ ! -d "$$crate/must-fail/more" ] || mv "$$crate"/must-fail/more/*.edit "$$crate/must-fail"; \
-	done && \
-	{ cd "$$to" && rt must-fail; } >target/edits.log 2>&1; status=$$?; cat target/edits.log; exit $$status
+	@rt all check
+	@rt must-fail >target/edits.log 2>&1; status=$$?; cat target/edits.log; exit $$status
 	@docs/edits.py target/edits.log
 
 lib: loops    # the archive and the shared object of include/uppinalo.h

@@ -29,7 +29,7 @@ use Rattle.fixed_axis.proofs.Offsets.{quotient_of, in_periods_lem, inexact}
 use Rattle.calendar_axis.specs.Steps.{date_at, read_steps}
 use Rattle.calendar_axis.proofs.Demands as Steps
 use Rattle.datetime64_type.specs.declared.UnitRow.{UnitRow}
-use Rattle.datetime64_number.specs.Numbers.{is_not_atime, holds_time, count_read, read_by_row, number_written, write_by_row}
+use Rattle.datetime64_number.specs.Numbers.{is_not_a_time, holds_time, count_read, read_by_row, number_written, write_by_row}
 use Rattle.datetime64_number.proofs.Years.{epoch_in}
 use Rattle.datetime64_number.proofs.Rows.{GoodRow, divisor}
 use Rattle.datetime64_number.proofs.Ratios.{has_time, holds_fits, time_biased, quotient_inside}
@@ -47,13 +47,13 @@ only_left_over z k r e = let q = inexact z k (λ n h. not_written r n (sym h ∙
 
 -- ---- numbers that hold a time
 
-holds : (n : ℤ) → SFits w64 n → is_not_atime n ≡ false → holds_time n ≡ true
+holds : (n : ℤ) → SFits w64 n → is_not_a_time n ≡ false → holds_time n ≡ true
 holds (pos n) f h = lt-ltb n 9223372036854775808 f.sfits
 holds (negsuc n) f h = lt-ltb n 9223372036854775807 (omega (arith, time_biased (negsuc n) f h))
 
 -- a 64-bit number but not-a-time
 abbrev pub Time : ℤ → Type 0
-Time n = SFits w64 n × (is_not_atime n ≡ false)
+Time n = SFits w64 n × (is_not_a_time n ≡ false)
 
 small_time : (n : ℤ) → mag n < 1000000000000000000 → Time n
 small_time (pos n) h = (record { sfits = omega arith }, refl)

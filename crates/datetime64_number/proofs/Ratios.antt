@@ -26,7 +26,7 @@ use Rattle.fixed_axis.proofs.Offsets.{inexact}
 use Rattle.ratio.specs.Multiples.{Place, IsRatio, IsMultiple}
 use Rattle.ratio.specs.declared.Ratio.{Ratio}
 use Rattle.datetime64_type.specs.declared.UnitRow.{UnitRow}
-use Rattle.datetime64_number.specs.Numbers.{is_not_atime, holds_time, count_read, read_by_row, number_written, write_by_row}
+use Rattle.datetime64_number.specs.Numbers.{is_not_a_time, holds_time, count_read, read_by_row, number_written, write_by_row}
 use Rattle.datetime64_number.specs.Conversions.{years_below, years_above, greatest_number, ReadsByRatio, WritesByRatio}
 use Rattle.datetime64_number.proofs.Products.{Within, within}
 use Rattle.datetime64_number.proofs.Years.{in_years_lem, within_years}
@@ -34,15 +34,15 @@ use Rattle.datetime64_number.proofs.Rows.{GoodRow, divisor}
 use Rattle.datetime64_number.proofs.Exchange.{product_at, product_place, quotient_at, quotient_place}
 
 -- ---- not-a-time is the number whose bias leaves 0
-pub has_time : (n : ℤ) → 0 < biased n → is_not_atime n ≡ false
+pub has_time : (n : ℤ) → 0 < biased n → is_not_a_time n ≡ false
 has_time (pos n) h = refl
 has_time (negsuc n) h = ne_eqb n 9223372036854775807 (λ e. omega arith)
 
-pub no_time : (n : ℤ) → SFits w64 n → biased n ≡ 0 → is_not_atime n ≡ true
+pub no_time : (n : ℤ) → SFits w64 n → biased n ≡ 0 → is_not_a_time n ≡ true
 no_time (pos n) f h = absurd (omega arith)
 no_time (negsuc n) f h = eq-eqb n 9223372036854775807 (omega (arith, f.sfits))
 
-pub time_biased : (n : ℤ) → SFits w64 n → is_not_atime n ≡ false → 0 < biased n
+pub time_biased : (n : ℤ) → SFits w64 n → is_not_a_time n ≡ false → 0 < biased n
 time_biased n f h = go (biased n) refl
   where
     go : (u : ℕ) → biased n ≡ u → 0 < u
@@ -85,7 +85,7 @@ module _ {r : Ratio} {from to below above : ℕ} (q : IsRatio r from to below ab
 pub record ReadAt (row : UnitRow) (r : Ratio) (n : ℤ) (i : ℕ) : Type 0 where
   pub instant : ℤ
   pub fits : SFits w64 instant
-  pub time : is_not_atime n ≡ false
+  pub time : is_not_a_time n ≡ false
   pub read : read_by_row row n ≡ Reading.At instant true
   pub place : Place r.to r.below r.above (biased instant) i
 

@@ -41,7 +41,7 @@ use Rattle.calendar_axis.proofs.Demands as Steps
 use Rattle.datetime64_type.specs.Units.{unit_row_of}
 use Rattle.datetime64_type.specs.declared.UnitCode.{UnitCode}
 use Rattle.datetime64_type.specs.declared.UnitRow.{UnitRow}
-use Rattle.datetime64_number.specs.Numbers.{is_not_atime, read_by_row, read_number, write_by_row, write_number}
+use Rattle.datetime64_number.specs.Numbers.{is_not_a_time, read_by_row, read_number, write_by_row, write_number}
 use Rattle.datetime64_number.proofs.Rows.{rows}
 use Rattle.datetime64_number.proofs.Units as Units
 use Rattle.datetime64_number.proofs.ByRow.{not_written, row_reads, row_time, row_writes, row_inside, row_inexact, Unread, other_reason, epoch_is, row_unread}
@@ -102,7 +102,7 @@ module _ (unit : UnitCode) where
   abbrev row : UnitRow
   row = unit_row_of unit
 
-  read_row : (n t : ℤ) (exact : Bool) → read_number unit n ≡ Reading.At t exact → (is_not_atime n ≡ false) × (read_by_row row n ≡ Reading.At t exact)
+  read_row : (n t : ℤ) (exact : Bool) → read_number unit n ≡ Reading.At t exact → (is_not_a_time n ≡ false) × (read_by_row row n ≡ Reading.At t exact)
   read_row n t exact e = let h = Units.read_time unit n (ap is_read e) in (h, sym (Units.read_by_row_lem unit n h) ∙ e)
 
   written_row : (t n : ℤ) → write_number unit t ≡ OffsetAnswer.Is n → (in_range ProlepticGregorian t ≡ true) × (write_by_row row t ≡ OffsetAnswer.Is n)
@@ -152,17 +152,17 @@ module _ (unit : UnitCode) where
 
   -- ---- a number that is refused
 
-  pub unread : (n : ℤ) (r : Refusal) → SFits w64 n → is_not_atime n ≡ false → (read_number unit n ≡ Reading.Refused r) ↔ Unread row n r
+  pub unread : (n : ℤ) (r : Refusal) → SFits w64 n → is_not_a_time n ≡ false → (read_number unit n ≡ Reading.Refused r) ↔ Unread row n r
   unread n r f h =
       let b = Units.read_by_row_lem unit n h in
       let u = row_unread row (rows unit) n (f, h) r in
       ((λ e. u.0 (sym b ∙ e)), λ w. b ∙ u.1 w)
 
-  pub not_a_time_read : (n : ℤ) → SFits w64 n → (read_number unit n ≡ Reading.Refused NotATime) ↔ (is_not_atime n ≡ true)
+  pub not_a_time_read : (n : ℤ) → SFits w64 n → (read_number unit n ≡ Reading.Refused NotATime) ↔ (is_not_a_time n ≡ true)
   unfolding read_number
-  not_a_time_read n f = (go (is_not_atime n) refl, λ h. ap (λ (b : Bool). cond b (Reading.Refused NotATime) (read_by_row row n)) h)
+  not_a_time_read n f = (go (is_not_a_time n) refl, λ h. ap (λ (b : Bool). cond b (Reading.Refused NotATime) (read_by_row row n)) h)
     where
-      go : (b : Bool) → is_not_atime n ≡ b → read_number unit n ≡ Reading.Refused NotATime → b ≡ true
+      go : (b : Bool) → is_not_a_time n ≡ b → read_number unit n ≡ Reading.Refused NotATime → b ≡ true
       go true h e = refl
       go false h e = absurd (other_reason row n ((unread n NotATime f h).0 e))
 

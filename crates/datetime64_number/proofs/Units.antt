@@ -25,7 +25,7 @@ use Rattle.ratio.proofs.Places.{good}
 use Rattle.datetime64_type.specs.Units.{unit_row_of}
 use Rattle.datetime64_type.specs.declared.UnitCode.{UnitCode}
 use Rattle.datetime64_type.specs.declared.UnitRow.{UnitRow}
-use Rattle.datetime64_number.specs.Numbers.{is_not_atime, read_by_row, read_number, write_by_row, write_number}
+use Rattle.datetime64_number.specs.Numbers.{is_not_a_time, read_by_row, read_number, write_by_row, write_number}
 use Rattle.datetime64_number.specs.Conversions.{ReadsByRatio, WritesByRatio, NearBounds}
 use Rattle.datetime64_number.proofs.Rows.{rows}
 use Rattle.datetime64_number.proofs.Ratios.{no_time, time_biased, ratio_read, ratio_found, unread, ratio_unread, ratio_written, instant_found, ratio_unwritten}
@@ -60,20 +60,20 @@ module _ (unit : UnitCode) where
   unfolding read_number
   not_a_time n f e = ap (λ (b : Bool). cond b (Reading.Refused NotATime) (read_by_row (unit_row_of unit) n)) (no_time n f e)
 
-  pub read_by_row_lem : (n : ℤ) → is_not_atime n ≡ false → read_number unit n ≡ read_by_row (unit_row_of unit) n
+  pub read_by_row_lem : (n : ℤ) → is_not_a_time n ≡ false → read_number unit n ≡ read_by_row (unit_row_of unit) n
   unfolding read_number
   read_by_row_lem n e = ap (λ (b : Bool). cond b (Reading.Refused NotATime) (read_by_row (unit_row_of unit) n)) e
 
   -- not-a-time is not read
-  pub read_time : (n : ℤ) → is_read (read_number unit n) ≡ true → is_not_atime n ≡ false
+  pub read_time : (n : ℤ) → is_read (read_number unit n) ≡ true → is_not_a_time n ≡ false
   unfolding read_number
-  read_time n = go (is_not_atime n)
+  read_time n = go (is_not_a_time n)
     where
       go : (b : Bool) → is_read (cond b (Reading.Refused NotATime) (read_by_row (unit_row_of unit) n)) ≡ true → b ≡ false
       go true h = absurd (false≢true h)
       go false h = refl
 
-  pub read_steps_lem : (part : Part) → unit_row_of unit ≡ UnitRow.Steps part → (n : ℤ) → is_not_atime n ≡ false → read_number unit n ≡ read_steps part ProlepticGregorian (pos 0) n
+  pub read_steps_lem : (part : Part) → unit_row_of unit ≡ UnitRow.Steps part → (n : ℤ) → is_not_a_time n ≡ false → read_number unit n ≡ read_steps part ProlepticGregorian (pos 0) n
   unfolding read_by_row
   read_steps_lem part e n h = read_by_row_lem n h ∙ ap (λ (row : UnitRow). read_by_row row n) e
 
@@ -90,7 +90,7 @@ module _ (unit : UnitCode) where
     pub multiple_good : IsMultiple r (biased n) → refusal_of (read_number unit n) ≡ none
     multiple_good m = ap refusal_of (multiple_read m)
 
-    pub other_read : is_not_atime n ≡ false → 0 < biased n → (IsMultiple r (biased n) → ⊥) → read_number unit n ≡ Reading.Refused (unread r.from)
+    pub other_read : is_not_a_time n ≡ false → 0 < biased n → (IsMultiple r (biased n) → ⊥) → read_number unit n ≡ Reading.Refused (unread r.from)
     other_read h g miss = read_by_row_lem n h ∙ ratio_unread (unit_row_of unit) r (rows unit) q n f g miss
 
     pub read_multiple : is_read (read_number unit n) ≡ true → IsMultiple r (biased n)

@@ -14,7 +14,7 @@ use Rattle.ratio.specs.Multiples.{IsRatio, AroundZero, Between}
 use Rattle.ratio.specs.declared.Bounds.{Bounds}
 use Rattle.ratio.specs.declared.Ratio.{Ratio}
 use Rattle.datetime64_type.specs.declared.UnitRow.{UnitRow}
-use Rattle.datetime64_number.specs.Numbers.{is_not_atime}
+use Rattle.datetime64_number.specs.Numbers.{is_not_a_time}
 use Rattle.datetime64_number.specs.declared.Conversion.{Conversion}
 use Rattle.datetime64_number.specs.declared.NumberCheck.{NumberCheck}
 
@@ -57,5 +57,5 @@ refusal_in (NumberCheck.Refused r) = some r
 -- every number of steps between the bounds is read
 pub record NearBounds (part : Part) (b : Bounds) : Type 0 where
   pub around : AroundZero b
-  pub time : (n : ℤ) → Between b (biased n) → is_not_atime n ≡ false
+  pub time : (n : ℤ) → Between b (biased n) → is_not_a_time n ≡ false
   pub read : (n : ℤ) → SFits w64 n → Between b (biased n) → is_read (read_steps part ProlepticGregorian (pos 0) n) ≡ true

@@ -13,9 +13,9 @@ use Rattle.datetime64_type.specs.declared.UnitCode.{UnitCode}
 use Rattle.datetime64_type.specs.declared.UnitRow.{UnitRow}
 
 -- not-a-time is the least 64-bit number, -(9223372036854775807 + 1)
-abbrev pub is_not_atime : ℤ → Bool
-is_not_atime (pos n) = false
-is_not_atime (negsuc n) = eqb n 9223372036854775807
+abbrev pub is_not_a_time : ℤ → Bool
+is_not_a_time (pos n) = false
+is_not_a_time (negsuc n) = eqb n 9223372036854775807
 
 -- a 64-bit number that can hold a time: any but not-a-time
 abbrev pub holds_time : ℤ → Bool
@@ -36,7 +36,7 @@ read_by_row (UnitRow.Multiple k) n = reading_at ProlepticGregorian (n *ℤ pos k
 read_by_row (UnitRow.Fraction k) n = count_read (in_periods n k)
 
 unfoldable pub read_number : UnitCode → ℤ → Reading
-read_number unit n = cond (is_not_atime n) (Reading.Refused NotATime) (read_by_row (unit_row_of unit) n)
+read_number unit n = cond (is_not_a_time n) (Reading.Refused NotATime) (read_by_row (unit_row_of unit) n)
 
 -- ---- writing
 

@@ -10,7 +10,7 @@ ghost use Rattle.step.specs.Closed.{months_of};
 ghost use Rattle.calendar_axis.specs.Steps.{read_steps};
 ghost use Rattle.calendar_axis.specs.Start.{StartOf};
 ghost use Rattle.datetime64_type.specs.declared.UnitRow.{UnitRow};
-ghost use Rattle.datetime64_number.specs.Numbers.{is_not_atime, read_number, write_number};
+ghost use Rattle.datetime64_number.specs.Numbers.{is_not_a_time, read_number, write_number};
 ghost use Rattle.datetime64_number.specs.Conversions.{ReadsByRatio, WritesByRatio, Reads, Writes, refusal_in, NearBounds};
 
 use axis_types::{OffsetAnswer, Reading};

@@ -26,7 +26,7 @@ use Rattle.datetime64_type.specs.declared.Datetime64Type.{Datetime64Type}
 use Rattle.datetime64_type.specs.declared.UnitRow.{UnitRow}
 use Rattle.datetime64_type.specs.declared.identifier.TypeAnswer.{TypeAnswer}
 use Rattle.datetime64_type.proofs.Texts.{type_is, type_ill_formed}
-use Rattle.datetime64_number.specs.Numbers.{is_not_atime, write_number}
+use Rattle.datetime64_number.specs.Numbers.{is_not_a_time, write_number}
 use Rattle.datetime64_number.proofs.ByRow.{Unread}
 use Rattle.datetime64_number.proofs.Theorems as Numbers
 use Rattle.datetime64_runs.specs.Records.{Bytes, IsRecord, record_number, record_count, records_in}
@@ -66,7 +66,7 @@ unread_not_3 (UnitRow.Fraction k) n r u e = omega (arith, e, ap number_of u.0)
 
 module _ (t : Datetime64Type) where
   record_not_3 : (r : List ℕ) → IsRecord r → NotThree (refusal_of (read_record t r))
-  record_not_3 r h q e k = go (is_not_atime (record_number t.order r)) refl
+  record_not_3 r h q e k = go (is_not_a_time (record_number t.order r)) refl
     where
       fits : SFits w64 (record_number t.order r)
       fits = number_fits t.order r h
@@ -74,7 +74,7 @@ module _ (t : Datetime64Type) where
       refused : read_record t r ≡ Reading.Refused q
       refused = was_refused (read_record t r) q e
 
-      go : (b : Bool) → is_not_atime (record_number t.order r) ≡ b → ⊥
+      go : (b : Bool) → is_not_a_time (record_number t.order r) ≡ b → ⊥
       go true f = let g = (Numbers.not_a_time_read t.unit (record_number t.order r) fits).1 f in let m : q ≡ NotATime = cc in omega (arith, k, ap number_of m)
       go false f = unread_not_3 (unit_row_of t.unit) (record_number t.order r) q ((Numbers.unread t.unit (record_number t.order r) q fits f).0 refused) k
 
