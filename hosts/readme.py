@@ -21,7 +21,7 @@ EXAMPLES = {
     "c": ["hosts/c/example.c"],
     "rust": ["hosts/binding/examples/example.rs"],
     "fortran": ["hosts/fortran/example.f90"],
-    "python": [f"hosts/python/{name}.py" for name in ("example", "cutover", "datetime64", "fragments", "tt2000")],
+    "python": [f"hosts/python/examples/{name}.py" for name in ("example", "cutover", "datetime64", "fragments", "tt2000")],
 }
 STUB = [
     ("target/staticlib/", "target/stub/"),
