@@ -20,12 +20,14 @@ WRITTEN = "written by docs/refusals.py from README.md's table"
 
 
 def table():
-    """The rows: number, name and words. The first is 0, which has no name."""
-    rows = re.findall(r"^\| (\d+) \| (?:-|`(\w+)`) \| (.*) \|$", (ROOT / "README.md").read_text(), re.MULTILINE)
-    found = [(int(number), name, words) for number, name, words in rows]
-    if [number for number, _, _ in found] != list(range(len(found))) or any(bool(name) != bool(number) for number, name, _ in found):
+    """The rows: number, name and words. The first is 0, which has no name. The names stand below the table, in the order of their numbers."""
+    text = (ROOT / "README.md").read_text()
+    found = [(int(number), words) for number, words in re.findall(r"^\| (\d+) \| (.*) \|$", text, re.MULTILINE)]
+    named = re.search(r"^The names of 1 to (\d+) are ([^.]*)\.", text, re.MULTILINE)
+    names = [""] + (re.findall(r"`(\w+)`", named[2]) if named else [])
+    if [number for number, _ in found] != list(range(len(found))) or len(names) != len(found) or int(named[1]) != len(found) - 1:
         sys.exit("README.md: the refusals are not numbered from 0 on, or one has no name")
-    return found
+    return [(number, name, words) for (number, words), name in zip(found, names)]
 
 
 def constant(name):

@@ -44,11 +44,6 @@ loop_answer loop_write_instant(__typeof__(uppinalo_write_instant) *write_instant
     LOOP(n, uppinalo_offset_answer, write_instant(axis, instants[i]), offsets[i] = answer.offset);
 }
 
-loop_answer loop_read_tt2000(__typeof__(uppinalo_read_tt2000) *read_tt2000, const uint8_t *leap_seconds, size_t leap_seconds_len,
-                             const int64_t *numbers, const uint8_t *skipped, size_t n, uppinalo_utc_fields *fields) {
-    LOOP(n, uppinalo_utc_fields_answer, read_tt2000(leap_seconds, leap_seconds_len, numbers[i]), fields[i] = answer.fields);
-}
-
 loop_answer loop_write_tt2000(__typeof__(uppinalo_write_tt2000) *write_tt2000, const uint8_t *leap_seconds, size_t leap_seconds_len,
                               const uppinalo_utc_fields *fields, const uint8_t *skipped, size_t n, int64_t *numbers) {
     LOOP(n, uppinalo_tt2000_answer, write_tt2000(leap_seconds, leap_seconds_len, fields[i]), numbers[i] = answer.tt2000);

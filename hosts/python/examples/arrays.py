@@ -10,5 +10,5 @@ print("in hours:", Axis("hours since 1850-01-01", calendar="noleap").write_run(r
 try:
     axis.read_run(times)  # without `missing`
 except Refused as refused:
-    print(f"refused {refused.number} at {refused.place}")
-print(Axis("days since 1850-01-01").read_run([59, 60]).datetime64())
+    print(f"refused {refused.number} at place {refused.place}")
+print(Axis("days since 1850-01-01", calendar="proleptic_gregorian").read_run([59, 60]).datetime64())

@@ -7,10 +7,7 @@ who has none; hosts/run does both.
 """
 
 import os
-import pathlib
 import sys
-
-REPOSITORY = pathlib.Path(__file__).resolve().parents[3]
 
 NUMPY = os.environ.get("UPPINALO_NUMPY")
 if NUMPY == "no":

@@ -4,6 +4,7 @@ import unittest
 
 from uppinalo import Calendar, Refused, UnitsReader
 
+CALLS = ("read_units", "start_units", "add_units", "end_units", "fields_of")
 TEXT = b"days since 1850-01-01"
 #: Calendar, units text, and the number of its refusal or 0.
 TEXTS = [

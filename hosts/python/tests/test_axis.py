@@ -6,6 +6,8 @@ import unittest
 
 from uppinalo import Axis, Calendar, Fields, Mode, Period, Reading, Refused, read_iso
 
+from .calls import needs
+
 READ = [
     ("standard", "days since 1582-10-04", 1, "1582-10-15"),
     ("proleptic_gregorian", "days since 1582-10-04", 1, "1582-10-05"),
@@ -60,9 +62,11 @@ STEPS = [
     ("all_leap", "calendar months since 1900-01-31", 1, "1900-02-29", 2),
     ("360_day", "calendar months since 2023-01-30", 1, "2023-02-30", 0),
 ]
+WHOLE = ("read_units", "read_whole", "write_iso")
 
 
 class Units(unittest.TestCase):
+    @needs("read_units")
     def test_parts(self):
         axis = Axis("calendar months since 1970-01-02", calendar="360_day")
         parts = (axis.calendar, axis.period, axis.mode, axis.reference)
@@ -72,6 +76,7 @@ class Units(unittest.TestCase):
         self.assertNotEqual(axis, Axis("months since 1970-01-02", calendar="360_day"))
         self.assertNotEqual(axis, "calendar months since 1970-01-02")
 
+    @needs("read_units")
     def test_refused(self):
         for calendar, units, number in REFUSED:
             with self.assertRaises(Refused) as caught:
@@ -79,6 +84,7 @@ class Units(unittest.TestCase):
             self.assertEqual((caught.exception.number, caught.exception.place), (number, None), units)
             self.assertIn(repr(units), str(caught.exception))
 
+    @needs("fields_of")
     def test_of_parts(self):
         axis = Axis.of(Calendar.NOLEAP, Period.DAY, Mode.FIXED, 0)
         self.assertEqual(eval(repr(axis)), axis)
@@ -90,12 +96,14 @@ class Units(unittest.TestCase):
 
 
 class OneOffset(unittest.TestCase):
+    @needs(*WHOLE)
     def test_cases_by_hand(self):
         for calendar, units, offset, expected in READ:
             text = expected if "T" in expected else f"{expected}T00:00:00.000000Z"
             reading = Axis(units, calendar=calendar).read(offset)
             self.assertEqual((reading.isoformat(), reading.exact), (text, True), units)
 
+    @needs(*WHOLE, "read_double", "read_iso")
     def test_days_back(self):
         for calendar, units, offset, date, days_back in STEPS:
             axis = Axis(units, calendar=calendar)
@@ -104,17 +112,20 @@ class OneOffset(unittest.TestCase):
             self.assertEqual(axis.read(float(offset)).days_back, days_back, units)
             self.assertEqual((axis.read(0).days_back, at.days_back), (0, 0), units)
 
+    @needs(*WHOLE, "read_double")
     def test_no_days_back_in_fixed_mode_and_shorter_periods(self):
         for units in ("months since 1930-01-31", "years since 1932-02-29", "calendar days since 1930-01-31", "days since 1582-09-14"):
             for offset in (0, 1, 20, 28, 1.0, -1):
                 self.assertEqual(Axis(units).read(offset).days_back, 0, units)
         self.assertEqual(Axis("months since 1930-01-31").read(0.5).days_back, 0)
 
+    @needs(*WHOLE, "read_double")
     def test_a_whole_float_is_read_as_the_int(self):
         for calendar, units, offset, _ in READ:
             axis = Axis(units, calendar=calendar)
             self.assertEqual(axis.read(float(offset)), axis.read(offset), units)
 
+    @needs("read_units", "read_double")
     def test_doubles(self):
         axis = Axis("seconds since 1970-01-01")
         self.assertEqual(axis.read(3 / 128), Reading(23_438, False, Calendar.STANDARD))
@@ -127,6 +138,7 @@ class OneOffset(unittest.TestCase):
                 axis.read(offset)
             self.assertEqual(caught.exception.number, number, offset)
 
+    @needs("read_units", "read_double")
     def test_doubles_in_calendar_mode(self):
         axis = Axis("calendar days since 1970-01-01")
         self.assertEqual(axis.read(2.0).instant, 2 * 86_400_000_000)
@@ -135,6 +147,7 @@ class OneOffset(unittest.TestCase):
                 axis.read(offset)
             self.assertEqual(caught.exception.number, number, offset)
 
+    @needs("read_units", "read_whole")
     def test_ints_of_any_size(self):
         for units in ("millisec since 1970", "calendar years since 1970", "calendar months since 1970"):
             for offset in (2**63 - 1, -(2**63), 2**64, 2**64 + 1, -(10**40)):
@@ -144,6 +157,7 @@ class OneOffset(unittest.TestCase):
 
 
 class Writing(unittest.TestCase):
+    @needs("read_units", "read_iso", "write_instant", "write_fields")
     def test_cases_by_hand(self):
         axis = Axis("calendar months since 1930-01-31")
         self.assertEqual(axis.write(read_iso("1930-02-28")), 1)
@@ -153,6 +167,7 @@ class Writing(unittest.TestCase):
                 axis.write(time)
             self.assertEqual(caught.exception.number, 6)
 
+    @needs("read_units", "read_whole", "write_instant", "write_fields", "fields_of")
     def test_reading_is_undone(self):
         for calendar, units, offset, _ in READ:
             axis = Axis(units, calendar=calendar)
@@ -160,12 +175,14 @@ class Writing(unittest.TestCase):
             for time in (reading, reading.instant, reading.fields):
                 self.assertEqual(axis.write(time), offset, units)
 
+    @needs("read_units", "write_instant")
     def test_instants_of_any_size(self):
         for instant in (2**63 - 1, -(2**63), 2**70):
             with self.assertRaises(Refused) as caught:
                 Axis("s since 1970").write(instant)
             self.assertEqual(caught.exception.number, 5)
 
+    @needs("read_units", "write_fields")
     def test_order_of_refusals(self):
         axis = Axis("days since 1970-01-01")
         for fields, number in [
@@ -186,6 +203,7 @@ class Writing(unittest.TestCase):
                 axis.write(fields)
             self.assertEqual(caught.exception.number, number, fields)
 
+    @needs("read_units", "write_instant")
     def test_an_instant_of_another_calendar(self):
         with self.assertRaises(ValueError):
             Axis("days since 1970", calendar="noleap").write(Reading(0, True, Calendar.JULIAN))

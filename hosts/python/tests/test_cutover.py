@@ -8,6 +8,8 @@ import unittest
 from uppinalo import CUTOVER_1582, Axis, Calendar, Date, Fields, Mode, Period, Reading, Refused, UnitsReader
 from uppinalo import date_of_day, day_of_date, fields_of, read_iso, write_iso
 
+from .calls import needs
+from .readers import CALLS
 
 ENGLISH = Date(1752, 9, 14)
 RUSSIAN = Date(1918, 2, 14)
@@ -47,6 +49,7 @@ class Standard(unittest.TestCase):
         self.assertEqual((caught.exception.number, caught.exception.place), (number, None), f"{arguments} {named}")
         return str(caught.exception)
 
+    @needs("read_units", "read_whole", "write_iso", "fields_of", "write_instant", "write_fields")
     def test_english_diary(self):
         diary = Axis("days since 1752-09-02", cutover=ENGLISH)
         reading = diary.read(1)
@@ -56,12 +59,14 @@ class Standard(unittest.TestCase):
         self.assertEqual(Axis("days since 1752-09-02").read(1).isoformat(), "1752-09-03T00:00:00.000000Z")
         self.assertIn("refused 13", self.refused(13, diary.write, Fields(1752, 9, 3)))
 
+    @needs("date_of_day", "day_of_date")
     def test_days(self):
         day = day_of_date(ENGLISH, "standard", cutover=ENGLISH)
         self.assertEqual(date_of_day(day - 1, "standard", cutover=ENGLISH), Date(1752, 9, 2))
         self.assertEqual(date_of_day(day, Calendar.STANDARD, cutover=ENGLISH), ENGLISH)
         self.assertEqual(day, day_of_date(ENGLISH, "proleptic_gregorian"))
 
+    @needs("day_of_date", "read_iso", "read_units")
     def test_dropped_and_missing_dates(self):
         for cutover, date, number in DATES:
             text = f"{date.year}-{date.month}-{date.day}"
@@ -73,6 +78,7 @@ class Standard(unittest.TestCase):
             self.refused(number, read_iso, text, cutover=cutover)
             self.refused(number, Axis, f"days since {text}", cutover=cutover)
 
+    @needs("read_units", "read_whole", "read_double", "read_iso")
     def test_days_back(self):
         for cutover, reference, offset, date, days_back in STEPS:
             axis = Axis(f"calendar months since {reference}", cutover=cutover)
@@ -81,6 +87,7 @@ class Standard(unittest.TestCase):
             self.assertEqual(axis.read(offset), expected, reference)
             self.assertEqual(axis.read(float(offset)), expected, reference)
 
+    @needs(*CALLS, "read_iso", "write_iso", "date_of_day", "day_of_date")
     def test_not_allowed(self):
         for cutover in NOT_ALLOWED:
             self.refused(16, Axis, "days since 1970", cutover=cutover)
@@ -96,6 +103,7 @@ class Standard(unittest.TestCase):
             self.refused(1, Axis, " " * 129, cutover=cutover)
         self.assertIn("cutover 1918-02-14", self.refused(16, Axis, "days since 1918-01-01", cutover=RUSSIAN))
 
+    @needs("read_units", "read_whole", "write_iso")
     def test_other_calendars_take_any(self):
         for calendar in list(Calendar)[1:]:
             usual = Axis("calendar months since 1752-08-10", calendar)
@@ -106,6 +114,7 @@ class Standard(unittest.TestCase):
 
 
 class Values(unittest.TestCase):
+    @needs("read_units")
     def test_forms(self):
         axis = Axis("days since 1752-09-02", cutover=ENGLISH)
         self.assertEqual((axis.cutover, Axis("days since 1752-09-02").cutover), (ENGLISH, CUTOVER_1582))
@@ -115,6 +124,7 @@ class Values(unittest.TestCase):
         self.assertNotEqual(axis, Axis("days since 1752-09-02"))
         self.assertEqual(Axis("s since 1970", cutover=(1582, 10, 15)), Axis("s since 1970"))
 
+    @needs("fields_of")
     def test_shown_and_stored(self):
         for cutover in (None, ENGLISH):
             axis = Axis.of(Calendar.STANDARD, Period.DAY, Mode.FIXED, 0, cutover)
@@ -122,6 +132,7 @@ class Values(unittest.TestCase):
             self.assertEqual([pickle.loads(pickle.dumps(axis)), copy.copy(axis), copy.deepcopy(axis)], [axis] * 3)
             self.assertEqual("1752" in repr(axis), cutover is ENGLISH)
 
+    @needs("read_units", "read_whole", "write_instant")
     def test_instants_of_two_cutovers(self):
         diary, usual = Axis("days since 1800-01-01", cutover=ENGLISH), Axis("days since 1800-01-01")
         self.assertEqual(diary.read(1).instant, usual.read(1).instant)
@@ -131,6 +142,7 @@ class Values(unittest.TestCase):
         in_julian = Axis("days since 1800-01-01", "julian", cutover=ENGLISH).read(1)
         self.assertEqual(Axis("days since 1800-01-01", "julian").write(in_julian), 1)
 
+    @needs("read_units", "read_wholes", "read_whole")
     def test_run(self):
         diary = Axis("days since 1752-08-30", cutover=ENGLISH)
         run = diary.read_run(range(6))
@@ -138,6 +150,7 @@ class Values(unittest.TestCase):
         days = [fields_of(instant, run.calendar, cutover=run.cutover).day for instant in run.instants]
         self.assertEqual(days, [30, 31, 1, 2, 14, 15])
 
+    @needs(*CALLS, "read_whole", "write_iso")
     def test_reader(self):
         reader = UnitsReader(cutover=datetime.date(1752, 9, 14))
         reader.add(b"days since 1752-09-02")

@@ -6,12 +6,15 @@ import unittest
 from uppinalo import Axis, Refused, read_datetime64, write_datetime64, write_iso
 from uppinalo._datetime64 import _records
 
+from .calls import needs
 from .records import DAY, IDENTIFIERS, LAST, LEAST, PARTS, instants_of, numbers_of, packed, raw, reading, unit_of, writing
 
 try:
     import numpy
 except ImportError:
     numpy = None
+
+BOTH = ("read_datetime64", "write_datetime64")
 
 
 def times(identifier, numbers):
@@ -34,6 +37,7 @@ class Case(unittest.TestCase):
 
 
 class Presence(unittest.TestCase):
+    @needs(*BOTH)
     def test_arrays_are_numpys_where_there_is_numpy(self):
         written = write_datetime64([DAY], ">M8[D]")
         run = read_datetime64(packed(">M8[D]", [1]), ">M8[D]")
@@ -47,6 +51,7 @@ class BesideNumpy(Case):
     """NumPy tests no range and cuts what is finer than a microsecond, so it is asked for numbers that are read; and not for the
     least of them, where its own division leaves 64 bits."""
 
+    @needs(*BOTH)
     def test_reading(self):
         for identifier in IDENTIFIERS:
             unit = unit_of(identifier)
@@ -56,6 +61,7 @@ class BesideNumpy(Case):
             self.same(run.datetime64(), source.astype("M8[us]"), identifier)
             self.assertEqual(run.instants.tolist(), [reading(unit, number)[1] for number in numbers])
 
+    @needs(*BOTH)
     def test_writing(self):
         for identifier in IDENTIFIERS:
             instants = [i for i in instants_of(unit_of(identifier), 2000, 5) if writing(unit_of(identifier), i)[0] == 0]
@@ -64,6 +70,7 @@ class BesideNumpy(Case):
             self.same(written, numpy.array(instants).view("M8[us]").astype(identifier), identifier)
             self.same(write_datetime64(numpy.array(instants), identifier), written, identifier)
 
+    @needs(*BOTH)
     def test_round_trips(self):
         for identifier in IDENTIFIERS:
             source = times(identifier, read_numbers(unit_of(identifier), 500, 6))
@@ -71,6 +78,7 @@ class BesideNumpy(Case):
             self.same(written, source, identifier)
             self.assertEqual(written.tobytes(), source.tobytes())
 
+    @needs(*BOTH)
     def test_what_numpy_cuts_is_refused(self):
         for unit, parts in PARTS.items():
             for number in (1, -1, parts - 1, parts + 1, 7 * parts - 1):
@@ -78,6 +86,7 @@ class BesideNumpy(Case):
         for identifier, instant in [("<M8[ms]", -1), ("<M8[s]", 999), ("<M8[M]", DAY), ("<M8[Y]", 31 * DAY), ("<M8[ns]", LAST)]:
             self.refused(6, 1, write_datetime64, numpy.array([0, instant]), identifier)
 
+    @needs(*BOTH)
     def test_texts(self):
         for text in ("1969-12-31T23:59:59.999999", "0000-03-01T00:00:00.000000", "9999-12-31T23:59:59.999999"):
             run = read_datetime64(numpy.array([text], "M8[us]"))
@@ -99,6 +108,7 @@ class Arrays(Case):
         ones = [whole[1, 2], whole[1, 2:3].reshape(())]
         return [whole, fixed, odd, swapped, numpy.asfortranarray(whole), packed_rows["b"], *ones, *views]
 
+    @needs(*BOTH)
     def test_every_layout(self):
         for identifier in ("<M8[D]", ">M8[us]", "<M8[M]"):
             for source in self.layouts(identifier):
@@ -113,6 +123,7 @@ class Arrays(Case):
         for source in (whole, fixed, odd, swapped, whole[1:3]):
             self.assertTrue(numpy.shares_memory(_records(source, None)[0], source))
 
+    @needs(*BOTH)
     def test_what_holds_an_array(self):
         class Series:
             def __array__(self, dtype=None, copy=None):
@@ -120,6 +131,7 @@ class Arrays(Case):
 
         self.assertEqual(read_datetime64(Series()).instants.tolist(), [1, 2])
 
+    @needs(*BOTH)
     def test_raw_records_in_arrays(self):
         records = packed(">M8[s]", [1, 2])
         for kind in ("u1", "i1", "S1", "V8", ">i8", "<u8"):
@@ -131,14 +143,15 @@ class Arrays(Case):
         self.same(read_datetime64(backwards, "<M8[s]").instants, numpy.array([1_000_000, 2_000_000]))
         self.refused(9, None, read_datetime64, rows[:, 1:], ">M8[s]")
 
+    @needs(*BOTH)
     def test_places_of_refusals(self):
         source = times(">M8[D]", [0, 1, 2, 3, LEAST, 5]).reshape(2, 3)
-        self.refused(10, (1, 1), read_datetime64, source)
-        self.refused(10, (1, 1), read_datetime64, source.T)
-        self.refused(10, (0, 1), read_datetime64, source[::-1])
-        self.refused(10, 4, read_datetime64, source.ravel())
+        self.refused(10, 4, read_datetime64, source)
+        self.refused(10, 3, read_datetime64, source.T)
+        self.refused(10, 1, read_datetime64, source[::-1])
         self.refused(5, 1, write_datetime64, numpy.array([0, "NaT"], "M8[us]"), "<M8[us]")
 
+    @needs(*BOTH)
     def test_masked_arrays(self):
         source = numpy.ma.array(times("<M8[D]", [1, LEAST]), mask=[False, False])
         self.assertEqual(read_datetime64(source[:1]).instants.tolist(), [DAY])
@@ -147,6 +160,7 @@ class Arrays(Case):
             with self.assertRaises(ValueError):
                 call(source, *arguments)
 
+    @needs(*BOTH)
     def test_kinds_that_are_none(self):
         for kind in ("?", "f2", "f8", "c16", "i4", "u2", "U2", "O", [("a", "M8[s]")], [("a", "i8")], numpy.longdouble):
             with self.assertRaises(TypeError, msg=kind):
@@ -158,6 +172,7 @@ class Arrays(Case):
 
 @unittest.skipIf(numpy is None, "NumPy is not installed")
 class Identifiers(Case):
+    @needs(*BOTH)
     def test_an_array_has_its_own(self):
         source = times(">M8[s]", [1])
         for identifier in (None, ">M8[s]", b">M8[s]"):
@@ -168,12 +183,14 @@ class Identifiers(Case):
             self.assertNotIsInstance(caught.exception, Refused)
             self.assertEqual(str(caught.exception), f"the array is of '>M8[s]', and the identifier is {identifier!r}")
 
+    @needs(*BOTH)
     def test_types_that_are_not_taken(self):
         for kind in ("M8", "M8[25s]", ">M8[2W]", "m8", "m8[ns]", ">m8[s]"):
             self.refused(3, None, read_datetime64, numpy.zeros(2, kind))
         with self.assertRaises(ValueError):
             read_datetime64(numpy.zeros(2, "m8[s]"), "<M8[s]")
 
+    @needs(*BOTH)
     def test_other_arrays_need_one(self):
         for data in (numpy.zeros(8, "u1"), numpy.zeros(1, int), bytes(8)):
             with self.assertRaises(TypeError):
@@ -182,17 +199,20 @@ class Identifiers(Case):
 
 @unittest.skipIf(numpy is None, "NumPy is not installed")
 class Instants(Case):
+    @needs(*BOTH)
     def test_kinds(self):
         expected = times(">M8[us]", [0, 1, 2])
         for kind in "i1 i2 i4 i8 >i8 u1 u2 u4 u8 >u8 M8[us] >M8[us]".split():
             self.same(write_datetime64(numpy.arange(3).astype(kind), ">M8[us]"), expected, kind)
         self.refused(5, 1, write_datetime64, numpy.array([0, 2**64 - 1], "u8"), "<M8[us]")
 
+    @needs(*BOTH)
     def test_shapes(self):
         for shape in ((), (0,), (3, 0), (2, 3), (2, 3, 4)):
             instants = DAY * numpy.arange(numpy.prod(shape, dtype=int)).reshape(shape)
             self.same(write_datetime64(instants, "<M8[D]"), instants.view("M8[us]").astype("M8[D]"))
 
+    @needs("read_units", "read_doubles", *BOTH)
     def test_a_run_of_an_axis_is_not_copied(self):
         axis = Axis("days since 1970-01-01", calendar="proleptic_gregorian")
         for offsets in (numpy.arange(6.0).reshape(2, 3), [0.0, 1.0]):
@@ -206,6 +226,7 @@ class Instants(Case):
 
 @unittest.skipIf(numpy is None, "NumPy is not installed")
 class Rooms(Case):
+    @needs(*BOTH)
     def test_rooms_for_instants(self):
         room = numpy.full((2, 2), 9)
         run = read_datetime64(times("<M8[D]", [1, 2, 3]), out=room)
@@ -215,6 +236,7 @@ class Rooms(Case):
         with self.assertRaises(ValueError):
             read_datetime64(room.view("M8[us]"), out=room)
 
+    @needs(*BOTH)
     def test_rooms_for_records(self):
         room = numpy.zeros(3, ">M8[D]")
         self.assertIs(write_datetime64([DAY, 2 * DAY], ">M8[D]", out=room), room)
@@ -231,6 +253,7 @@ class Rooms(Case):
             with self.assertRaises(TypeError):
                 write_datetime64([0], ">M8[D]", out=wrong)
 
+    @needs(*BOTH)
     def test_rooms_that_overlap(self):
         memory = numpy.arange(4)
         with self.assertRaises(ValueError):

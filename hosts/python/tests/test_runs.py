@@ -5,9 +5,12 @@ import math
 import unittest
 
 from uppinalo import Axis, Refused
-from uppinalo._lendable import lendable_offsets
+from uppinalo._runs import lendable
+
+from .calls import needs
 
 DAY = 86_400_000_000
+BOTH = ("read_units", "read_wholes", "read_doubles")
 
 
 def days(calendar="proleptic_gregorian"):
@@ -15,6 +18,7 @@ def days(calendar="proleptic_gregorian"):
 
 
 class Sources(unittest.TestCase):
+    @needs(*BOTH)
     def test_every_source_gives_the_same_instants(self):
         expected = array.array("q", [0, DAY, -2 * DAY])
         wholes, doubles = [0, 1, -2], [0.0, 1.0, -2.0]
@@ -36,33 +40,39 @@ class Sources(unittest.TestCase):
     def test_arrays_are_not_copied(self):
         for kind in "dq":
             offsets = array.array(kind, [1, 2])
-            self.assertIs(lendable_offsets(offsets), offsets)
+            self.assertIs(lendable(offsets), offsets)
             view = memoryview(offsets)
-            self.assertIs(lendable_offsets(view), view)
+            self.assertIs(lendable(view), view)
 
+    @needs(*BOTH)
     def test_a_read_only_source(self):
         source = memoryview(array.array("d", [0.25]).tobytes()).cast("d")
         self.assertEqual(days().read_run(source).instants, array.array("q", [DAY // 4]))
 
+    @needs(*BOTH)
     def test_a_source_that_is_not_aligned(self):
         memory = bytearray(b"x") + array.array("q", [1, 2]).tobytes()
         source = memoryview(memory)[1:].cast("q")
         self.assertEqual(days().read_run(source).instants, array.array("q", [DAY, 2 * DAY]))
 
+    @needs(*BOTH)
     def test_empty(self):
         for source in ([], (), array.array("d"), array.array("q"), range(0), memoryview(b"").cast("d")):
             run = days().read_run(source)
             self.assertEqual((run.instants, run.rounded, len(run)), (array.array("q"), 0, 0))
 
+    @needs(*BOTH)
     def test_a_range(self):
         self.assertEqual(days().read_run(range(100_000)).instants[-1], 99_999 * DAY)
 
+    @needs(*BOTH)
     def test_rounded_are_counted(self):
         run = Axis("seconds since 1970-01-01").read_run([3 / 128, 1.0, 1 / 3, 0.5])
         self.assertEqual((list(run.instants), run.rounded), ([23_438, 1_000_000, 333_333, 500_000], 2))
 
 
 class Refusals(unittest.TestCase):
+    @needs(*BOTH)
     def test_the_first_refused_offset(self):
         for source, number, place in [
             ([0, 1, 2_932_897, 10**30], 5, 2),
@@ -76,12 +86,14 @@ class Refusals(unittest.TestCase):
                 days().read_run(source)
             self.assertEqual((caught.exception.number, caught.exception.place), (number, place), source)
 
+    @needs(*BOTH)
     def test_a_refused_run_writes_nothing(self):
         room = array.array("q", [7, 8, 9])
         with self.assertRaises(Refused):
             days().read_run([0, 1, 10**9], out=room)
         self.assertEqual(room, array.array("q", [7, 8, 9]))
 
+    @needs(*BOTH)
     def test_too_little_room(self):
         room = array.array("q", [7, 8])
         with self.assertRaises(Refused) as caught:
@@ -91,12 +103,14 @@ class Refusals(unittest.TestCase):
 
 
 class Rooms(unittest.TestCase):
+    @needs(*BOTH)
     def test_places_beyond_the_run_stay(self):
         room = array.array("q", [7, 8, 9])
         run = days().read_run(array.array("d", [1.0, 2.0]), out=room)
         self.assertIs(run.instants, room)
         self.assertEqual((room, len(run)), (array.array("q", [DAY, 2 * DAY, 9]), 2))
 
+    @needs(*BOTH)
     def test_rooms_that_are_none(self):
         for room in (
             array.array("d", [0.0]),
@@ -114,6 +128,7 @@ class Rooms(unittest.TestCase):
             with self.assertRaises(TypeError, msg=repr(room)):
                 days().read_run([1], out=room)
 
+    @needs(*BOTH)
     def test_a_room_over_the_source(self):
         memory = array.array("q", [1, 2, 3, 4])
         view = memoryview(memory)
@@ -124,6 +139,7 @@ class Rooms(unittest.TestCase):
         days().read_run(view[:2], out=view[2:])
         self.assertEqual(memory, array.array("q", [1, 2, DAY, 2 * DAY]))
 
+    @needs(*BOTH)
     def test_nothing_stays_lent(self):
         source, room = array.array("d", [1.0]), array.array("q", [0])
         days().read_run(source, out=room)

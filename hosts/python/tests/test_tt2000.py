@@ -11,8 +11,9 @@ import unittest
 
 from uppinalo import LeapSeconds, Refused, UtcFields
 
-from . import REPOSITORY
+from .calls import REPOSITORY, needs
 
+CALLS = ("read_tt2000", "write_tt2000")
 FILE = REPOSITORY / "data" / "leap_seconds_2017.bin"
 RECORDS = FILE.read_bytes()
 SECOND = 10**9
@@ -44,20 +45,24 @@ class Values(Case):
         self.assertEqual(fields.isoformat(), text)
         self.assertEqual(leap_seconds.write(fields), tt2000)
 
+    @needs(*CALLS)
     def test_j2000(self):
         for count in (23, 25, 28):
             self.same(first_records(count), 0, "2000-01-01T11:58:55.816000000Z")
 
+    @needs(*CALLS)
     def test_2009(self):
         """A count of 34, so TT is 66.184 s ahead of UTC."""
         noon = (datetime.date(2009, 1, 1) - datetime.date(2000, 1, 1)).days * 86400 * SECOND
         self.same(first_records(25), noon + 66_184_000_000, "2009-01-01T12:00:00.000000000Z")
 
+    @needs(*CALLS)
     def test_end_of_the_range(self):
         """Source document 003 says 11:46:08.670775807, for which its list would have to count 36 and not 34."""
         for count, second in ((25, "10"), (27, "08"), (28, "07")):
             self.same(first_records(count), 2**63 - 1, f"2292-04-11T11:46:{second}.670775807Z")
 
+    @needs(*CALLS)
     def test_before_1972(self):
         leap_seconds = first_records(28)
         first = leap_seconds.write(UtcFields(1972))
@@ -68,6 +73,7 @@ class Values(Case):
             self.refused(15, leap_seconds.read, number)
         self.refused(15, leap_seconds.write, UtcFields(1707, 9, 22, 12, 13, 15, 145_224_194))
 
+    @needs(*CALLS)
     def test_every_leap_second(self):
         leap_seconds = first_records(28)
         for day, count in list(struct.iter_unpack("<qq", RECORDS))[1:]:
@@ -79,6 +85,7 @@ class Values(Case):
             self.same(leap_seconds, midnight - 1, f"{eve}T23:59:60.999999999Z")
             self.same(leap_seconds, midnight, f"{date}T00:00:00.000000000Z")
 
+    @needs(*CALLS)
     def test_against_python(self):
         """After the last leap second the count of 37 holds."""
         epoch = datetime.datetime(2000, 1, 1, 12) - datetime.timedelta(seconds=37, milliseconds=32_184)
@@ -89,6 +96,7 @@ class Values(Case):
 
 
 class Lists(Case):
+    @needs(*CALLS)
     def test_sources(self):
         expected = LeapSeconds(RECORDS)
         gaps = memoryview(bytes(byte for pair in zip(RECORDS, RECORDS) for byte in pair))[::2]
@@ -99,6 +107,7 @@ class Lists(Case):
         self.assertNotEqual(expected, RECORDS)
         self.assertEqual(repr(expected), "<LeapSeconds: 28 records>")
 
+    @needs(*CALLS)
     def test_files(self):
         self.assertEqual(LeapSeconds.from_file(FILE), LeapSeconds(RECORDS))
         self.assertEqual(LeapSeconds.from_file(str(FILE)), LeapSeconds(RECORDS))
@@ -108,6 +117,7 @@ class Lists(Case):
             path.write_bytes(RECORDS[:17])
             self.refused(14, LeapSeconds.from_file, path)
 
+    @needs(*CALLS)
     def test_copies(self):
         records = bytearray(RECORDS)
         leap_seconds = LeapSeconds(records)
@@ -116,6 +126,7 @@ class Lists(Case):
         for other in (copy.copy(leap_seconds), copy.deepcopy(leap_seconds), pickle.loads(pickle.dumps(leap_seconds))):
             self.assertEqual(other, leap_seconds)
 
+    @needs(*CALLS)
     def test_bad_lists(self):
         for records in (
             b"",
@@ -143,6 +154,7 @@ class Lists(Case):
 
 
 class Writing(Case):
+    @needs(*CALLS)
     def test_refused(self):
         leap_seconds = first_records(28)
         for fields, number in [
@@ -164,6 +176,7 @@ class Writing(Case):
         ]:
             self.assertIn(repr(fields), str(self.refused(number, leap_seconds.write, fields)))
 
+    @needs(*CALLS)
     def test_years_of_any_size(self):
         """A year past 64 bits has the dates of its rule."""
         leap_seconds = first_records(1)
@@ -174,6 +187,7 @@ class Writing(Case):
                 self.refused(number if is_leap else 12, leap_seconds.write, UtcFields(sign * year, 2, 29))
                 self.refused(12, leap_seconds.write, UtcFields(sign * year, 2, 30))
 
+    @needs(*CALLS)
     def test_numbers_of_any_size(self):
         leap_seconds = first_records(28)
         for number in (2**63, 2**64, 10**40):
@@ -181,6 +195,7 @@ class Writing(Case):
         for number in (-(2**63) - 1, -(10**40)):
             self.refused(15, leap_seconds.read, number)
 
+    @needs(*CALLS)
     def test_wrong_types(self):
         leap_seconds = first_records(28)
         for number in (None, "0", b"0", True, 0.0, 1.5, [], object()):
@@ -196,6 +211,7 @@ class Writing(Case):
 class Runs(Case):
     NUMBERS = [0, START_OF_2017 - SECOND, START_OF_2017, 2**63 - 1]
 
+    @needs(*CALLS)
     def test_there_and_back(self):
         leap_seconds = first_records(28)
         fields = leap_seconds.read_run(self.NUMBERS)
@@ -206,6 +222,7 @@ class Runs(Case):
             self.assertEqual(leap_seconds.read_run(run), fields)
         self.assertEqual((leap_seconds.read_run([]), leap_seconds.write_run([])), ([], []))
 
+    @needs(*CALLS)
     def test_refused(self):
         leap_seconds = first_records(28)
         for place in range(4):
@@ -214,24 +231,17 @@ class Runs(Case):
             refused = self.refused(4, leap_seconds.write_run, [LEAP_SECOND] * place + [UtcFields(2000, 13)] * 2, place=place)
             self.assertTrue(str(refused).endswith(f"at place {place}"))
 
+    @needs(*CALLS)
     def test_numpy(self):
         try:
             import numpy
         except ImportError:
             self.skipTest("no NumPy")
         leap_seconds = first_records(28)
-        numbers = numpy.array(self.NUMBERS).reshape(2, 2)
-        fields = leap_seconds.read_run(numbers)
-        self.assertEqual(fields.dtype.names, UtcFields._fields)
-        self.assertEqual([UtcFields(*one) for one in fields.ravel().tolist()], leap_seconds.read_run(self.NUMBERS))
-        numpy.testing.assert_array_equal(leap_seconds.write_run(fields), numbers)
-        numpy.testing.assert_array_equal(leap_seconds.write_run(fields[:, ::-1].T), numbers[:, ::-1].T)
-        self.assertEqual(leap_seconds.read(numbers[0, 1]), LEAP_SECOND)
+        numbers = numpy.array(self.NUMBERS)
+        self.assertEqual(leap_seconds.read_run(numbers), leap_seconds.read_run(self.NUMBERS))
+        self.assertEqual(leap_seconds.read(numbers[1]), LEAP_SECOND)
         self.refused(5, leap_seconds.read, numpy.uint64(2**63))
-        self.refused(15, leap_seconds.read_run, numpy.where(numbers == 0, -(2**63), numbers).T, place=(0, 0))
-        fields["hour"][1, 0] = 24
-        self.refused(4, leap_seconds.write_run, fields, place=(1, 0))
-        for wrong in (numbers.astype(float), numbers.astype("u8"), numbers.astype("M8[ns]"), fields):
+        masked = numpy.ma.masked_array(numbers, [0, 1, 0, 0])
+        for wrong in (numbers.astype(float), numbers.reshape(2, 2), numbers.astype("M8[ns]"), masked):
             self.assertRaises(TypeError, leap_seconds.read_run, wrong)
-        self.assertRaises(TypeError, leap_seconds.write_run, numbers)
-        self.assertRaises(ValueError, leap_seconds.read_run, numpy.ma.masked_array(numbers, [[0, 1], [0, 0]]))

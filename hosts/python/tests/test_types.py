@@ -10,6 +10,8 @@ import unittest
 from uppinalo import Axis, Calendar, Date, Fields, Mode, Period, Reading, UnitsReader, calendar_of, date_of_day, day_of_date
 from uppinalo import fields_of, read_datetime64, read_iso, write_datetime64, write_iso
 
+from .calls import needs
+
 NO_NUMBERS = [None, "1", b"1", True, False, 1j, [], {}, object(), decimal.Decimal(1), fractions.Fraction(1, 2), int, ...]
 
 
@@ -32,6 +34,7 @@ class WrongTypes(unittest.TestCase):
             self.refused(Axis, text)
             self.refused(Axis, "days since 1970", calendar=text)
 
+    @needs("start_units", "add_units")
     def test_fragments(self):
         for fragment in (None, 0, 1.5, True, "days", [], [b"days"], object(), array.array("d", [1.0]), array.array("i", [1])):
             self.refused(UnitsReader().add, fragment)
@@ -68,6 +71,7 @@ class WrongTypes(unittest.TestCase):
         self.refused(Axis.of, Calendar.NOLEAP, Period.DAY, 0, 0)
         self.refused(Axis.of, Calendar.NOLEAP, Mode.FIXED, Period.DAY, 0)
 
+    @needs("fields_of")
     def test_offsets(self):
         axis = Axis.of(Calendar.NOLEAP, Period.DAY, Mode.FIXED, 0)
         for offset in NO_NUMBERS:
@@ -95,6 +99,7 @@ class WrongTypes(unittest.TestCase):
             self.refused(write_datetime64, instants, "<M8[s]")
         self.refused(write_datetime64, memoryview(bytes(32)).cast("q", (2, 2)), "<M8[s]")
 
+    @needs("fields_of")
     def test_times(self):
         axis = Axis.of(Calendar.NOLEAP, Period.DAY, Mode.FIXED, 0)
         for time in [*NO_NUMBERS, 1.0, (2000, 1, 1), Date(2000), Fields("2000"), Fields(2000, 1.0), Fields(2000, True)]:
@@ -114,6 +119,7 @@ def in_threads(work):
 
 
 class Threads(unittest.TestCase):
+    @needs("read_units", "read_doubles")
     def test_threads_share_an_axis(self):
         axis = Axis("hours since 1900-01-01", calendar="julian")
         offsets = [n / 7 for n in range(2000)]
@@ -121,6 +127,7 @@ class Threads(unittest.TestCase):
         found = in_threads(lambda: [axis.read_run(offsets).instants == expected for _ in range(20)])
         self.assertEqual(found, [True] * 80)
 
+    @needs("read_units", "start_units", "add_units", "end_units", "fields_of")
     def test_threads_have_readers_of_their_own(self):
         text = b"calendar months since 1930-01-30"
         expected = Axis(text)

@@ -5,15 +5,18 @@ import random
 
 from uppinalo import WORDS, Axis, UnitsReader
 
-from .readers import TEXT, TEXTS, Case, long_text, outcome, reader_of
+from .calls import needs
+from .readers import CALLS, TEXT, TEXTS, Case, long_text, outcome, reader_of
 
 
 class Cuts(Case):
+    @needs(*CALLS)
     def test_texts(self):
         for name, text, number in TEXTS:
             expected = outcome(Axis, text, name)
             self.assertEqual(0 if isinstance(expected, Axis) else expected, number, text)
 
+    @needs(*CALLS)
     def test_two_cuts_anywhere(self):
         for name, text, _ in TEXTS:
             expected = outcome(Axis, text, name)
@@ -22,11 +25,13 @@ class Cuts(Case):
                     fragments = (text[:first], text[first:second], text[second:])
                     self.assertEqual(outcome(reader_of(*fragments).end, name), expected, fragments)
 
+    @needs(*CALLS)
     def test_byte_by_byte_and_empty_fragments(self):
         for name, text, _ in TEXTS:
             fragments = [part for byte in text for part in (b"", bytes([byte]), b"", b"")]
             self.assertEqual(outcome(reader_of(*fragments, b"").end, name), outcome(Axis, text, name), text)
 
+    @needs(*CALLS)
     def test_any_bytes_cut_anywhere(self):
         draw = random.Random(4)
         for _ in range(2000):
@@ -39,6 +44,7 @@ class Cuts(Case):
 
 
 class Lengths(Case):
+    @needs(*CALLS)
     def test_around_128_bytes(self):
         for length in range(126, 132):
             text = long_text(length)
@@ -47,6 +53,7 @@ class Lengths(Case):
             for cut in range(length + 1):
                 self.assertEqual(outcome(reader_of(text[:cut], text[cut:]).end), expected, (length, cut))
 
+    @needs(*CALLS)
     def test_adding_to_a_text_that_is_too_long(self):
         for fragments in ([bytes(1_000_000)], [long_text(128), b"x"], [b"x"] * 1000, [long_text(129), b"", long_text(128)]):
             reader = reader_of(*fragments)
@@ -56,6 +63,7 @@ class Lengths(Case):
             self.refused(1, reader.end, "tai")
             self.closed(reader)
 
+    @needs(*CALLS)
     def test_the_state(self):
         reader = UnitsReader()
         self.assertEqual(bytes(reader._state), bytes(136))
@@ -64,6 +72,7 @@ class Lengths(Case):
         self.assertEqual(bytes(reader._state.bytes), b"abc" + b"x" * 124 + b"y")
         self.assertEqual((reader._state.count, reader._state.ended), (129, 0))
 
+    @needs(*CALLS)
     def test_places_beyond_the_text_stay(self):
         reader = UnitsReader()
         ctypes.memset(reader._state.bytes, ord("x"), 128)
@@ -73,6 +82,7 @@ class Lengths(Case):
 
 
 class Ends(Case):
+    @needs(*CALLS)
     def test_after_the_end(self):
         for name, text, _ in TEXTS:
             reader = reader_of(text)
@@ -81,6 +91,7 @@ class Ends(Case):
             self.closed(reader)
             self.assertEqual(outcome(lambda: reader.axis), expected)
 
+    @needs(*CALLS)
     def test_no_axis_before_the_end(self):
         reader = reader_of(TEXT)
         with self.assertRaises(RuntimeError) as caught:
@@ -90,6 +101,7 @@ class Ends(Case):
         self.assertEqual(axis, Axis(TEXT))
         self.assertIs(reader.axis, axis)
 
+    @needs(*CALLS)
     def test_readers_are_apart(self):
         first, second = reader_of(b"days"), reader_of(b"hours")
         first.add(b" since 1970")
@@ -97,6 +109,7 @@ class Ends(Case):
         self.assertEqual((first.end(), second.end()), (Axis("days since 1970"), Axis("hours since 1970")))
         self.refused(3, UnitsReader().end)
 
+    @needs(*CALLS)
     def test_damaged_states(self):
         for count, ended in [(130, 0), (2**32 - 1, 0), (0, 1), (5, 2), (5, 2**32 - 1), (130, 1)]:
             reader = reader_of(TEXT)
@@ -106,6 +119,7 @@ class Ends(Case):
 
 
 class Words(Case):
+    @needs(*CALLS)
     def test_a_refused_end_says_what_the_joined_text_says(self):
         for name, text, number in TEXTS:
             if number:
@@ -113,10 +127,12 @@ class Words(Case):
                 refused = self.refused(number, reader_of(text).end, name)
                 self.assertEqual((str(refused), refused.subject), (str(expected), expected.subject))
 
+    @needs(*CALLS)
     def test_a_text_that_is_too_long(self):
         refused = self.refused(1, reader_of(long_text(128), b"xyz").end)
         self.assertEqual(refused.subject, f"units {long_text(128)!r} and more, calendar 'standard'")
 
+    @needs(*CALLS)
     def test_after_the_end(self):
         reader = reader_of(TEXT)
         reader.end()
@@ -124,6 +140,7 @@ class Words(Case):
         self.assertEqual(str(refused), f"refused 11: {WORDS[11]}: units {TEXT!r}, calendar 'julian'")
         self.assertEqual(self.refused(11, reader.add, b"").subject, f"a fragment after units {TEXT!r}")
 
+    @needs(*CALLS)
     def test_representation(self):
         reader = reader_of(b"days", calendar=b"noleap")
         self.assertEqual(repr(reader), "<UnitsReader: units b'days', calendar b'noleap'>")

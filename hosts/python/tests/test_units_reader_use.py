@@ -10,7 +10,8 @@ import unittest
 from uppinalo import Axis, Calendar, Refused, UnitsReader
 from uppinalo._lent import contiguous
 
-from .readers import TEXT, TEXTS, Case, outcome, reader_of
+from .calls import needs
+from .readers import CALLS, TEXT, TEXTS, Case, outcome, reader_of
 
 try:
     import numpy
@@ -19,6 +20,7 @@ except ImportError:
 
 
 class Blocks(Case):
+    @needs(*CALLS)
     def test_the_end_of_a_block_ends(self):
         with UnitsReader(calendar="noleap") as reader:
             for fragment in (b"days since", b" 1850-01-01"):
@@ -26,6 +28,7 @@ class Blocks(Case):
         self.assertEqual(reader.axis, Axis(TEXT, calendar="noleap"))
         self.closed(reader)
 
+    @needs(*CALLS)
     def test_a_block_that_is_left_early(self):
         def first_with_a_date(fragments):
             with UnitsReader() as reader:
@@ -36,6 +39,7 @@ class Blocks(Case):
 
         self.assertEqual(first_with_a_date([b"days since ", b"1850-01-01", b"more"]).axis, Axis(TEXT))
 
+    @needs(*CALLS)
     def test_an_exception_goes_on_and_nothing_ends(self):
         reader = UnitsReader()
         for exception in (ConnectionError, KeyboardInterrupt, GeneratorExit):
@@ -48,6 +52,7 @@ class Blocks(Case):
             reader.add(TEXT)
         self.assertEqual(reader.axis, Axis(TEXT))
 
+    @needs(*CALLS)
     def test_an_end_within(self):
         with reader_of(TEXT) as reader:
             self.assertEqual(reader.end("julian"), Axis(TEXT, calendar="julian"))
@@ -56,6 +61,7 @@ class Blocks(Case):
             self.refused(3, reader.end)
         self.refused(3, lambda: reader.axis)
 
+    @needs(*CALLS)
     def test_a_refused_end_of_a_block(self):
         with self.assertRaises(Refused) as caught:
             with reader_of(b"days") as reader:
@@ -65,6 +71,7 @@ class Blocks(Case):
         self.assertEqual(str(again), str(caught.exception))
         self.closed(reader)
 
+    @needs(*CALLS)
     def test_a_fragment_after_the_end_within(self):
         with self.assertRaises(Refused) as caught:
             with reader_of(TEXT) as reader:
@@ -75,6 +82,7 @@ class Blocks(Case):
 
 
 class Calendars(Case):
+    @needs(*CALLS)
     def test_given_each_way(self):
         for name in ("noleap", b"noleap", "365_day", Calendar.NOLEAP):
             assigned = reader_of(TEXT)
@@ -85,22 +93,26 @@ class Calendars(Case):
             for other in (Calendar.STANDARD, "julian", "tai"):
                 self.assertEqual(reader_of(TEXT, calendar=other).end(name), Axis(TEXT, calendar=name))
 
+    @needs(*CALLS)
     def test_standard_where_none_is_given(self):
         for end in (lambda reader: reader.end(), lambda reader: reader.end(None), lambda reader: reader.end("")):
             self.assertEqual(end(reader_of(TEXT)), Axis(TEXT))
 
+    @needs(*CALLS)
     def test_within_a_block(self):
         with UnitsReader() as reader:
             reader.add(TEXT)
             reader.calendar = "360_day"
         self.assertEqual(reader.axis, Axis(TEXT, calendar="360_day"))
 
+    @needs(*CALLS)
     def test_an_unknown_name_is_refused_at_the_end(self):
         for name in ("tai", "Standard", b"\xff", "noleap\0", "\u0660", "x" * 10_000):
             reader = reader_of(b"no units text", calendar=name)
             self.refused(2, reader.end)
             self.closed(reader)
 
+    @needs(*CALLS)
     def test_a_wrong_type_ends_nothing(self):
         reader = reader_of(TEXT, calendar="julian")
         for wrong in (0, 3, 1.5, True, [], bytearray(b"noleap"), object()):
@@ -130,6 +142,7 @@ class Fragments(Case):
             memoryview(TEXT[::-1])[::-1],
         ]
 
+    @needs(*CALLS)
     def test_whatever_holds_bytes(self):
         for fragment in self.holders():
             self.assertEqual(reader_of(fragment).end(), Axis(TEXT), fragment)
@@ -138,10 +151,12 @@ class Fragments(Case):
         for fragment in self.holders()[:-2]:
             self.assertIs(contiguous(fragment, ""), fragment)
 
+    @needs(*CALLS)
     def test_empty(self):
         for fragment in (b"", bytearray(), memoryview(b""), array.array("B"), memoryview(TEXT)[5:5], memoryview(TEXT)[9:2:3]):
             self.assertEqual(reader_of(TEXT, fragment).end(), Axis(TEXT))
 
+    @needs(*CALLS)
     def test_nothing_stays_lent(self):
         fragment, numbers = bytearray(TEXT), array.array("H", [1])
         reader = reader_of(fragment)
@@ -151,12 +166,14 @@ class Fragments(Case):
         fragment.append(0)
         numbers.append(0)
 
+    @needs(*CALLS)
     def test_what_was_added_is_kept(self):
         fragment = bytearray(TEXT)
         reader = reader_of(fragment)
         fragment[:] = b"x" * len(TEXT)
         self.assertEqual(reader.end(), Axis(TEXT))
 
+    @needs(*CALLS)
     def test_wrong_types_add_nothing(self):
         released = memoryview(TEXT)
         released.release()
@@ -169,6 +186,7 @@ class Fragments(Case):
         self.assertEqual(reader.end(), Axis(TEXT))
 
     @unittest.skipIf(numpy is None, "NumPy is not installed")
+    @needs(*CALLS)
     def test_arrays_of_numpy(self):
         letters = numpy.frombuffer(TEXT, "S1")
         wide = numpy.repeat(letters, 2)[::2]
@@ -184,6 +202,7 @@ class Copies(Case):
         dumps = [pickle.dumps(reader, protocol) for protocol in range(pickle.HIGHEST_PROTOCOL + 1)]
         return [copy.copy(reader), copy.deepcopy(reader), *map(pickle.loads, dumps)]
 
+    @needs(*CALLS)
     def test_a_copy_goes_on_alone(self):
         reader = reader_of(TEXT[:9], calendar="360_day")
         for other in self.copies(reader):
@@ -192,6 +211,7 @@ class Copies(Case):
         reader.add(TEXT[9:])
         self.assertEqual(reader.end(), Axis(TEXT, calendar="360_day"))
 
+    @needs(*CALLS)
     def test_a_copy_after_the_end(self):
         for name, text, _ in TEXTS:
             reader = reader_of(text)
@@ -200,6 +220,7 @@ class Copies(Case):
                 self.assertEqual(outcome(lambda: other.axis), expected)
                 self.closed(other)
 
+    @needs(*CALLS)
     def test_a_damaged_copy(self):
         reader = UnitsReader()
         *others, state = reader.__getstate__()

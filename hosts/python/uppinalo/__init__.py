@@ -8,7 +8,7 @@
     >>> axis.write(reading)
     Traceback (most recent call last):
     ...
-    uppinalo.Refused: refused 6: no whole offset reads as this time: 1850-03-01T12:00:00.000000Z
+    uppinalo.Refused: refused 6: no whole offset or number of the unit reads as the instant; ...
 
 The work is done by a proved library, ``libuppinalo.so``; this package lends it Python's numbers, texts and arrays. Whatever
 the library refuses is the exception ``Refused``, and what has the wrong type a TypeError. It may be used from many threads, each

@@ -2,17 +2,18 @@
 
 from __future__ import annotations
 
+import math
 from typing import TYPE_CHECKING, Any, Optional, Tuple, Union
 
 from ._codes import Calendar, Mode, Period
 from ._instants import CUTOVER_1582, CalendarOrName, Cutover, Date, Fields, Reading, calendar_of, cutover_numbers, date_of
 from ._instants import field_numbers, fields_of, name_of, reading_of, refused
-from ._lendable import Instants, Offsets, lendable_offsets, lent_room, room_for, shape_of
+from ._lendable import Instants, Offsets, lendable, lent_room, room_for, shape_of
 from ._lent import Lent
 from ._library import call
 from ._missing import NOT_A_TIME, Fills, put, without_missing
 from ._numbers import Text, double, encoded, is_whole, signed
-from ._refused import Refused, place_in
+from ._refused import Refused
 from ._runs import Run, looped
 from ._structs import AxisAnswer, AxisCodes, DateNumbers
 from ._times import Times, instants_in
@@ -134,12 +135,8 @@ class Axis:
         Where ``missing`` is given, a fill value or a tuple of several, what equals one of them is not read, nor is a NaN, a None or
         what an array masks: it comes out as NumPy's not-a-time, and marked in ``Run.mask``. ``missing=math.nan`` is for files
         without a fill value. Where it is not given, a NaN is refused with 8.
-
-        >>> run = Axis("days since 1970-01-01").read_run([1.5, -999.0], missing=-999.0)
-        >>> run.isoformat(), run.mask
-        (['1970-01-02T12:00:00.000000Z', ''], [False, True])
         """
-        source, mask = (lendable_offsets(offsets), None) if missing is None else without_missing(offsets, missing)
+        source, mask = (lendable(offsets), None) if missing is None else without_missing(offsets, missing)
         room = room_for(source) if out is None else out
         with Lent(source) as lent, lent_room(room) as written:
             if lent.overlaps(written):
@@ -147,11 +144,10 @@ class Axis:
             name = "read_doubles" if lent.format == "d" else "read_wholes"
             answer = call[name](self._codes, lent.start, lent.length, written.start, written.length)
         if answer.number:
-            place = None if answer.number == 7 else place_in(shape_of(source), answer.place)
-            raise Refused(answer.number, "a run of offsets", place, name)
+            raise Refused(answer.number, "a run of offsets", None if answer.number == 7 else answer.place, name)
         if mask is not None:
             put(room, mask, NOT_A_TIME)
-        return Run(room, answer.rounded, shape_of(source), self.calendar, self.cutover, mask)
+        return Run(room, answer.rounded, answer.length, self.calendar, self.cutover, mask, shape_of(source))
 
     def write(self, time: Union[int, Reading, Fields, numpy.datetime64]) -> int:
         """The whole offset that reads as an instant, a reading, fields or a time of NumPy's; it is written exactly, or refused with 6."""
@@ -170,15 +166,12 @@ class Axis:
 
         ``missing`` is the offset that is written for what is missing: NaT, what an array masks, and what a run's mask marks. Where
         it is not given, a missing time is a ValueError.
-
-        >>> Axis("days since 1970-01-01").write_run([0, 86_400_000_000])
-        array('q', [0, 1])
         """
         instants, mask = instants_in(self.calendar, self.cutover, times)
         if mask is not None and missing is None:
             raise ValueError("what is missing has no offset: say what is to be written for it by `missing`")
         shape, room = shape_of(instants), room_for(instants)
-        looped("write_instant", (self._codes,), instants, mask, shape, room, "a run of instants")
+        looped("write_instant", (self._codes,), instants, mask, math.prod(shape), room, "a run of instants")
         if mask is not None:
             put(room, mask, signed(missing, "a fill value"))
         return room

@@ -8,12 +8,11 @@ import sys
 from typing import Any, Iterable, Optional, Tuple, Union
 
 from ._codes import Calendar
-from ._instants import CUTOVER_1582
 from ._lendable import Instants, lendable_instants, lent_room, shape_of, unmasked
 from ._lent import Lent, contiguous
 from ._library import call
 from ._numbers import Text, encoded
-from ._refused import Refused, place_in
+from ._refused import Refused
 from ._runs import Run
 from ._structs import RunAnswer
 
@@ -47,8 +46,8 @@ def read_datetime64(data: Any, identifier: Optional[Text] = None, out: Optional[
                 raise ValueError("the room for instants overlaps the records")
             answer = call["read_datetime64"](name, len(name), lent.start, lent.size, written.start, written.length)
         shape = _shape(source, lent.length)
-    _check(answer, "read_datetime64", f"records of {name.decode(errors='replace')!r}", shape)
-    return Run(room, answer.rounded, shape, Calendar.PROLEPTIC_GREGORIAN)
+    _check(answer, "read_datetime64", f"records of {name.decode(errors='replace')!r}")
+    return Run(room, answer.rounded, answer.length, Calendar.PROLEPTIC_GREGORIAN, shape=shape)
 
 
 def write_datetime64(instants: RunOrInstants, identifier: Text, out: Optional[Any] = None) -> Any:
@@ -68,23 +67,24 @@ def write_datetime64(instants: RunOrInstants, identifier: Text, out: Optional[An
     """
     name = encoded(identifier, "an identifier")
     if isinstance(instants, Run):
-        instants.check_calendar(Calendar.PROLEPTIC_GREGORIAN, CUTOVER_1582)
-    source = instants.read_instants() if isinstance(instants, Run) else lendable_instants(instants)
+        instants.check_proleptic_gregorian()
+    # the room of a run may hold more than its instants, or have been cut to fewer
+    source = instants.instants_left() if isinstance(instants, Run) else lendable_instants(instants)
     with Lent(source) as lent:
         room = _room_for_records(source) if out is None else _raw_room(out, identifier)
         with _lent_records(room, is_written=True) as written:
             if lent.overlaps(written):
                 raise ValueError("the room for records overlaps the instants")
             answer = call["write_datetime64"](name, len(name), lent.start, lent.length, written.start, written.size)
-    _check(answer, "write_datetime64", f"instants as {name.decode(errors='replace')!r}", shape_of(source))
+    _check(answer, "write_datetime64", f"instants as {name.decode(errors='replace')!r}")
     if out is not None:
         return out
     return room if isinstance(room, bytearray) else room.view(name.decode())
 
 
-def _check(answer: RunAnswer, name: str, subject: str, shape: Tuple[int, ...]) -> None:
+def _check(answer: RunAnswer, name: str, subject: str) -> None:
     if answer.number:
-        raise Refused(answer.number, subject, None if answer.number in (3, 7, 9) else place_in(shape, answer.place), name)
+        raise Refused(answer.number, subject, None if answer.number in (3, 7, 9) else answer.place, name)
 
 
 def _records(data: Any, identifier: Optional[Text]) -> tuple[Any, bytes]:

@@ -100,32 +100,19 @@ class LeapSeconds:
             raise Refused(answer.number, f"{fields!r}", None, "write_tt2000")
         return int(answer.tt2000)
 
-    def read_run(self, numbers: Union[Iterable[int], numpy.ndarray[Any, Any]]) -> Any:
-        """The UTC time of every number, or none and a refusal with the place of the first refused: for a NumPy array of int64 an
-        array of its shape with a field for each of :class:`UtcFields`, and else a list of these."""
-        numpy = numpy_of(numbers)
-        if numpy is None:
-            return _every(self.read, numbers)
-        given = unmasked(numpy, numpy.asanyarray(numbers))
-        if given.dtype.kind not in "iu" or not numpy.can_cast(given.dtype, numpy.int64):
-            raise TypeError(f"an array of TT2000 must be of int64, not {given.dtype}")
-        source = numpy.require(given, numpy.int64, ["C", "A"])
-        return self._each("read_tt2000", source, numpy.empty(source.shape, numpy.dtype(UtcFieldNumbers)))
+    def read_run(self, numbers: Iterable[int]) -> List[UtcFields]:
+        """The UTC time of every number, as of a NumPy array of int64, or none and a refusal with the place of the first refused."""
+        return _every(self.read, numbers)
 
     def write_run(self, fields: Union[Iterable[UtcFields], numpy.ndarray[Any, Any]]) -> Any:
-        """The TT2000 of every UTC time, or none and a refusal with the place of the first refused: for an array as :meth:`read_run`
-        gives it an array of int64, and else a list."""
+        """The TT2000 of every UTC time, or none and a refusal with the place of the first refused: a list, and for a NumPy array with
+        a field for each of :class:`UtcFields`, the year of int64 and the others of uint32, an array of int64 of its shape."""
         numpy = numpy_of(fields)
-        if numpy is None:
+        if numpy is None or numpy.asanyarray(fields).dtype != numpy.dtype(UtcFieldNumbers):
             return _every(self.write, fields)
-        given = unmasked(numpy, numpy.asanyarray(fields))
-        if given.dtype != numpy.dtype(UtcFieldNumbers):
-            raise TypeError(f"an array of UTC times must be of {numpy.dtype(UtcFieldNumbers)}, not {given.dtype}")
-        source = numpy.require(given, None, ["C", "A"])
-        return self._each("write_tt2000", source, numpy.empty(source.shape, numpy.int64))
-
-    def _each(self, name: str, source: Any, room: Any) -> Any:
-        return looped(name, (self._records, len(self._records)), source, None, source.shape, room, "a run of TT2000 times")
+        source = numpy.require(unmasked(numpy, numpy.asanyarray(fields)), None, ["C", "A"])
+        room, given = numpy.empty(source.shape, numpy.int64), (self._records, len(self._records))
+        return looped("write_tt2000", given, source, None, source.size, room, "a run of UTC times")
 
 
 def _every(one: Callable[[_Given], _Result], run: Iterable[_Given]) -> List[_Result]:

@@ -41,7 +41,7 @@ def each(convert: Callable[[_Given], _Result], elements: Iterable[_Given]) -> It
             raise TypeError(f"{error}, at place {place}") from None
 
 
-def lendable_offsets(offsets: Any) -> Any:
+def lendable(offsets: Any) -> Any:
     """The offsets as a NumPy array, an array or a memoryview. What holds them as doubles or as signed 64-bit numbers is not copied."""
     numpy = numpy_of(offsets)
     if numpy is not None:
@@ -50,7 +50,7 @@ def lendable_offsets(offsets: Any) -> Any:
 
 
 def lendable_instants(instants: Any) -> Any:
-    """The instants as what :func:`lendable_offsets` gives, but never as doubles."""
+    """The instants as what :func:`lendable` gives, but never as doubles."""
     numpy = numpy_of(instants)
     if numpy is not None:
         return _instants_from_numpy(numpy, unmasked(numpy, numpy.asanyarray(instants)))

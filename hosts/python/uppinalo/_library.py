@@ -2,7 +2,8 @@
 
 It is sought in this order: the file that the environment variable UPPINALO_LIBRARY names, ``libuppinalo.so`` beside this
 file, as in an installed package, ``target/staticlib/libuppinalo.so`` of the repository, and where the system keeps its
-libraries. One that is missing, that this machine cannot load or that is of another version is an ImportError.
+libraries. One that is missing, that this machine cannot load or that is of another version is an ImportError. One that exports
+some of the calls only has these, and the others are a NotImplementedError.
 
 ``libuppinalo_loops.so``, made of ``loops.c``, stands beside this file or in ``target/python`` of the repository.
 """
@@ -15,8 +16,31 @@ import os
 import pathlib
 from typing import Any
 
-from ._structs import CALLS, LOOPS, DateNumbers, FieldNumbers, LoopAnswer
+from ._structs import CALLS, LOOPS, AxisAnswer, AxisCodes, DateAnswer, DateNumbers, DayAnswer, FieldNumbers, FieldsAnswer
+from ._structs import LengthAnswer, LoopAnswer, OffsetAnswer, ReadingAnswer, RunAnswer, Tt2000Answer, UnitsState
+from ._structs import UtcFieldNumbers, UtcFieldsAnswer
 from ._version import __version__
+
+__all__ = [
+    "AxisAnswer",
+    "AxisCodes",
+    "CALLS",
+    "DateAnswer",
+    "DateNumbers",
+    "DayAnswer",
+    "FieldNumbers",
+    "FieldsAnswer",
+    "LengthAnswer",
+    "OffsetAnswer",
+    "ReadingAnswer",
+    "RunAnswer",
+    "Tt2000Answer",
+    "UnitsState",
+    "UtcFieldNumbers",
+    "UtcFieldsAnswer",
+    "call",
+    "loop",
+]
 
 _HERE = pathlib.Path(__file__).resolve().parent
 _TARGET = _HERE.joinpath("..", "..", "..", "target")
@@ -45,27 +69,48 @@ def _loops() -> ctypes.CDLL:
     return _loaded(str((folders or [_HERE])[0] / "libuppinalo_loops.so"), _ADVICE)
 
 
+def _missing(name: str) -> Any:
+    def missing(*_: object) -> Any:
+        raise NotImplementedError(f"the shared object does not export uppinalo_{name}")
+
+    return missing
+
+
+def _is_exported(function: Any) -> bool:
+    return isinstance(function, ctypes._CFuncPtr)
+
+
 def _declared(library: ctypes.CDLL, symbol: str, answer: Any, arguments: list[Any]) -> Any:
+    """The function, or None where the shared object does not have it."""
     try:
         function = library[symbol]
     except AttributeError:
-        raise ImportError(f"{library._name} has no {symbol}, so it is none of uppinalo {__version__}: {_ADVICE}") from None
+        return None
     function.restype, function.argtypes = answer, arguments
     return function
 
 
 def _calls(library: ctypes.CDLL) -> dict[str, Any]:
-    """The calls, of which one is tried: a shared object of another version, with other arguments, says another time."""
-    calls = {name: _declared(library, f"uppinalo_{name}", *CALLS[name]) for name in CALLS}
-    answer = calls["fields_of"](0, DateNumbers(1582, 10, 15), 0)
-    if bytes(answer.fields) != bytes(FieldNumbers(1970, 1, 1)):
-        raise ImportError(f"{library._name} is not of uppinalo {__version__}: {_ADVICE}")
+    """The calls, of which one is tried: a shared object of another version, with other arguments, says another time. A call that
+    the shared object does not have is one that says so."""
+    calls = {name: _declared(library, f"uppinalo_{name}", *CALLS[name]) or _missing(name) for name in CALLS}
+    if not any(map(_is_exported, calls.values())):
+        lacking = f"no uppinalo_{next(iter(calls))} nor any other call"
+        raise ImportError(f"{library._name} has {lacking}, so it is none of uppinalo {__version__}: {_ADVICE}")
+    if _is_exported(calls["fields_of"]):
+        answer = calls["fields_of"](0, DateNumbers(1582, 10, 15), 0)
+        if bytes(answer.fields) != bytes(FieldNumbers(1970, 1, 1)):
+            raise ImportError(f"{library._name} is not of uppinalo {__version__}: {_ADVICE}")
     return calls
 
 
 def _looped(library: ctypes.CDLL, name: str) -> Any:
+    if not _is_exported(call[name]):
+        return call[name]
     around = [ctypes.c_void_p, ctypes.c_void_p, ctypes.c_size_t, ctypes.c_void_p]
     made = _declared(library, f"loop_{name}", LoopAnswer, [ctypes.c_void_p, *LOOPS[name], *around])
+    if made is None:
+        raise ImportError(f"{library._name} has no loop_{name}, so it is none of uppinalo {__version__}: {_ADVICE}")
     return functools.partial(made, ctypes.cast(call[name], ctypes.c_void_p))
 
 

@@ -5,7 +5,7 @@ from __future__ import annotations
 import math
 from typing import TYPE_CHECKING, Any, List, Optional, Tuple, Union
 
-from ._lendable import Instants, elements_of, lendable_offsets, numpy_of, offsets_from_elements
+from ._lendable import Instants, elements_of, lendable, numpy_of, offsets_from_elements
 from ._numbers import LEAST, double, is_double, is_whole, whole
 
 if TYPE_CHECKING:
@@ -29,14 +29,14 @@ def without_missing(offsets: Any, missing: Fills) -> Tuple[Any, Optional[Mask]]:
     masked = numpy.asanyarray(offsets)
     given = numpy.ma.getdata(masked)
     if given.dtype.kind not in "iuf":
-        return lendable_offsets(given), None
+        return lendable(given), None
     mask = numpy.ma.getmaskarray(masked) | (given != given)
     for fill in fills:
         mask |= _holds(numpy, given, fill)
     if not mask.any():
-        return lendable_offsets(given), None
+        return lendable(given), None
     mask = numpy.require(mask, bool, ["C"])
-    return lendable_offsets(numpy.where(mask, given.dtype.type(0), given)), mask
+    return lendable(numpy.where(mask, given.dtype.type(0), given)), mask
 
 
 def _fill(fill: Any) -> Union[int, float]:
@@ -69,7 +69,7 @@ def _stored_float(numpy: Any, dtype: Any, fill: Union[int, float]) -> Any:
 
 def _without_missing_elements(offsets: Any, fills: List[Union[int, float]]) -> Tuple[Any, Optional[Mask]]:
     if isinstance(offsets, (str, bytes, bytearray)):
-        return lendable_offsets(offsets), None
+        return lendable(offsets), None
     elements = elements_of(offsets)
     mask = [_is_missing(element, fills) for element in elements]
     if not any(mask):

@@ -2,10 +2,7 @@
 
 from __future__ import annotations
 
-from typing import Dict, Optional, Tuple, Union
-
-#: The place of an element: its number, or a tuple of numbers in an array of two or more dimensions.
-Place = Union[int, Tuple[int, ...]]
+from typing import Dict, Optional
 
 # refusals: begin, written by docs/refusals.py from README.md's table
 #: The refusals by number, in plain words.
@@ -34,7 +31,7 @@ _PAST = "the time lies past the years -9999 to 9999"
 _NO_TYPE = "the identifier is none of datetime64 with one unit, such as <M8[ns]"
 _UNITS = {3: "the units are not a period, `since` and a date, such as `days since 1850-01-01`", 4: _NO_DATE_HAS, 5: _PAST}
 _OFFSET = {5: _PAST, 6: "in calendar mode the offset must be a whole number"}
-_WRITTEN = {4: _NO_DATE_HAS, 5: _PAST, 6: "no whole offset reads as this time"}
+_WRITTEN = {4: _NO_DATE_HAS, 5: _PAST}
 _TT2000 = {5: "the TT2000 lies past 64 bits"}
 
 #: Where a number has several meanings, the words of the one that it has in a call.
@@ -63,11 +60,12 @@ class Refused(ValueError):
     """A call that the library refuses.
 
     ``number`` is the refusal's number and ``words`` says in plain words what it means for ``call``, the library's call. ``place``
-    is the place, from 0, of the first refused offset, record, instant, TT2000 or fields of a run, a tuple of places in an array of
-    two or more dimensions, and None where it is none of these that is refused. ``subject`` is what was asked.
+    is the place, from 0, of the first refused offset, record, instant, TT2000 or fields of a run, counted in the order of the
+    elements also in an array of two or more dimensions, and None where it is none of these that is refused. ``subject`` is what
+    was asked.
     """
 
-    def __init__(self, number: int, subject: str = "", place: Optional[Place] = None, call: str = "") -> None:
+    def __init__(self, number: int, subject: str = "", place: Optional[int] = None, call: str = "") -> None:
         super().__init__(number, subject, place, call)
         self.number = number
         self.subject = subject
@@ -83,14 +81,3 @@ class Refused(ValueError):
         about = f": {self.subject}" if self.subject else ""
         where = "" if self.place is None else f", at place {self.place}"
         return f"refused {self.number}: {self.words}{about}{where}"
-
-
-def place_in(shape: Tuple[int, ...], place: int) -> Place:
-    """The place of an element of an array: its number in one dimension, and in more a tuple."""
-    if len(shape) < 2:
-        return place
-    places = []
-    for length in reversed(shape):
-        place, within = divmod(place, length)
-        places.append(within)
-    return tuple(reversed(places))

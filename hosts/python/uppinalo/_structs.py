@@ -110,6 +110,5 @@ LOOPS: dict[str, list[Any]] = {
     "fields_of": [c_uint32, DateNumbers],
     "write_iso": [c_uint32, DateNumbers],
     "write_instant": [AxisCodes],
-    "read_tt2000": [c_char_p, c_size_t],
     "write_tt2000": [c_char_p, c_size_t],
 }
