@@ -1,3 +1,4 @@
+pub mod OverState
 pub mod SoFar
 pub mod Boundary
 pub mod Unnamed
