@@ -4,7 +4,8 @@
 // answer gets it. A read or a write that fails ends the program, which tells the system's reason on standard error.
 #![tactic(auto)]
 
-ghost use Rattle.std.specs.Prelude.{◌≤◌, length, IfOk};
+ghost use Rattle.std.specs.Prelude.{◌≤◌, length, IfOk, IfErr};
+ghost use Rattle.listing.specs.Failure.{IsOfOutput};
 
 mod failure;
 mod input;
@@ -29,7 +30,8 @@ fn least(a: usize, b: usize) -> usize
 
 // Writes out the answers that are left, and more may be read. After a write that failed nothing is answered of a line that was cut off.
 fn written<W: Write>(to: &mut W, out: &[u8], used: usize, gathered: usize) -> Result<usize, Failure>
-    ensures { IfOk result (λ n. n ≤ gathered) }
+    ensures ok { IfOk result (λ n. n ≤ gathered) }
+    ensures err { IfErr result IsOfOutput }
 {
     output::flush(to, out, used)?;
     Ok(gathered)
@@ -45,7 +47,8 @@ fn feed<W: Write>(
     begun: usize,
 ) -> Result<usize, Failure>
     requires { (64 ≤ length out.old) × (begun ≤ length line.old) }
-    ensures { IfOk result (λ n. n ≤ length line.old) }
+    ensures ok { IfOk result (λ n. n ≤ length line.old) }
+    ensures err { IfErr result IsOfOutput }
 {
     let mut gathered = begun;
     let mut used: usize = 0;
@@ -126,6 +129,7 @@ fn run<R: Read, W: Write>(
 // The last line, where it lacks its newline.
 fn finish<W: Write>(to: &mut W, line: &[u8], out: &mut [u8], gathered: usize) -> Result<(), Failure>
     requires { (64 ≤ length out.old) × (gathered ≤ length line.now) }
+    ensures { IfErr result IsOfOutput }
 {
     if gathered == 0 {
         return Ok(());

@@ -1,5 +1,6 @@
 // Answers gathered in a buffer, and the buffer written out.
-ghost use Rattle.std.specs.Prelude.{◌≡◌, ◌+◌, ◌≤◌, length, IfOk};
+ghost use Rattle.std.specs.Prelude.{◌≡◌, ◌+◌, ◌≤◌, length, IfOk, IfErr};
+ghost use Rattle.listing.specs.Failure.{IsOfOutput};
 ghost use Rattle.iso_form.specs.Form.{over};
 ghost use Rattle.listing_line.specs.Line.{line_text};
 
@@ -9,13 +10,17 @@ use std::io;
 use std::io::{ErrorKind, Write};
 
 // A write that took nothing and names no error has none to wait for, and is not tried again.
-fn nothing_taken() -> Failure {
+fn nothing_taken() -> Failure
+    ensures { IsOfOutput result }
+{
     Failure::Output(io::Error::new(ErrorKind::WriteZero, "Nothing was taken"))
 }
 
 // Writes out the first bytes of the buffer. A write may take a part, and the next one goes on with the rest. The writes are counted, to a
 // number that no run reaches.
-pub(crate) fn flush<W: Write>(to: &mut W, out: &[u8], used: usize) -> Result<(), Failure> {
+pub(crate) fn flush<W: Write>(to: &mut W, out: &[u8], used: usize) -> Result<(), Failure>
+    ensures { IfErr result IsOfOutput }
+{
     let end = crate::least(used, out.len());
     let mut done: usize = 0;
     for _ in 0..u64::MAX {
@@ -38,7 +43,8 @@ pub(crate) fn flush<W: Write>(to: &mut W, out: &[u8], used: usize) -> Result<(),
 // Room for the next answer, and where in the buffer it is: the buffer is written out where too little is left of it.
 pub(crate) fn make_room<W: Write>(to: &mut W, out: &[u8], used: usize) -> Result<usize, Failure>
     requires { 64 ≤ length out.now }
-    ensures { IfOk result (λ at. at + 64 ≤ length out.now) }
+    ensures ok { IfOk result (λ at. at + 64 ≤ length out.now) }
+    ensures err { IfErr result IsOfOutput }
 {
     if used <= out.len() - 64 {
         return Ok(used);
