@@ -7,30 +7,23 @@ ghost use Rattle.instant.specs.Instant.{in_range};
 ghost use Rattle.axis_types.specs.Reading.{with_days_back};
 ghost use Rattle.axis.specs.Axis.{axis_check, step_on, whole_on, whole_back, by_whole, by_whole_back, double_on, double_back, offset_back, offset_on, read_whole_on, read_double_on, read_offset, write_instant_on, write_fields_on};
 
-use axis_types::{Axis, Mode, Offset, OffsetAnswer, OffsetReading, Period, Reading};
-use double::whole::Whole;
-use instant::{Fields, InstantAnswer};
+use axis_types::{Axis, Mode, Offset, OffsetReading, Period};
+use instant::Fields;
 use refusal::Refusal;
 use step::Part;
 
-// Whether an axis can be read and written on at all.
-#[derive(Clone, Copy)]
-pub enum AxisCheck {
-    Good,
-    Refused(Refusal),
-}
-
-pub fn check_axis(axis: Axis) -> AxisCheck
+pub fn check_axis(axis: Axis) -> Result<(), Refusal>
     ensures { result ≡ axis_check axis }
 {
     let c = axis.calendar;
     if instant::in_range(c, axis.reference) {
-        return AxisCheck::Good;
+        return Ok(());
     }
-    return AxisCheck::Refused(Refusal::OutOfRange);
+    return Err(Refusal::OutOfRange);
 }
 
-// What a whole offset moves on an axis: the time, or a part of the date.
+// What a whole offset moves on an axis: the time, or a part of the date. It is data that contracts speak of, and no closure: one that is handed
+// out is refused.
 #[derive(Clone, Copy)]
 pub enum Step {
     Time,
@@ -45,21 +38,16 @@ pub fn step_on(axis: Axis) -> Step
     match mode {
         Mode::Fixed => return Step::Time,
         Mode::Calendar => match p {
-            Period::Second => return Step::Time,
-            Period::Millisecond => return Step::Time,
-            Period::Minute => return Step::Time,
-            Period::Hour => return Step::Time,
-            Period::Day => return Step::Time,
-            Period::Week => return Step::Time,
             Period::Month => return Step::Date(Part::Month),
             Period::Year => return Step::Date(Part::Year),
+            _ => return Step::Time,
         },
     }
 }
 
 // ---- on a good axis
 
-fn read_whole_on(axis: Axis, n: i64) -> OffsetReading
+fn read_whole_on(axis: Axis, n: i64) -> Result<OffsetReading, Refusal>
     requires { in_range axis.calendar axis.reference ≡ true }
     ensures { result ≡ with_days_back (whole_on axis n) (whole_back axis n) }
 {
@@ -71,35 +59,16 @@ fn read_whole_on(axis: Axis, n: i64) -> OffsetReading
     }
 }
 
-// The same answer, field by field: one that is copied whole goes through memory, with the bytes between its fields.
-fn by_fields(a: OffsetReading) -> OffsetReading
-    ensures { result ≡ a }
-{
-    let reading = a.reading;
-    match reading {
-        Reading::At(t, exact) => return OffsetReading {
-            reading: Reading::At(t, exact),
-            days_back: a.days_back,
-        },
-        Reading::Refused(r) => return OffsetReading {
-            reading: Reading::Refused(r),
-            days_back: a.days_back,
-        },
-    }
-}
-
 // A double in calendar mode: the whole offset that it is, read as any other. That tests the axis once more, and is quicker than a call that does not.
-fn read_as_whole(axis: Axis, x: f64) -> OffsetReading
+fn read_as_whole(axis: Axis, x: f64) -> Result<OffsetReading, Refusal>
     requires { in_range axis.calendar axis.reference ≡ true }
     ensures { result ≡ with_days_back (by_whole (whole_on axis) x) (by_whole_back (whole_back axis) x) }
 {
-    match double::whole::whole_of(x) {
-        Whole::Refused(r) => return axis_types::unmoved(Reading::Refused(r)),
-        Whole::Is(n) => return by_fields(read_whole(axis, n)),
-    }
+    let n = double::whole::whole_of(x)?;
+    read_whole(axis, n)
 }
 
-fn read_double_on(axis: Axis, x: f64) -> OffsetReading
+fn read_double_on(axis: Axis, x: f64) -> Result<OffsetReading, Refusal>
     requires { in_range axis.calendar axis.reference ≡ true }
     ensures { result ≡ with_days_back (double_on axis x) (double_back axis x) }
 {
@@ -113,7 +82,7 @@ fn read_double_on(axis: Axis, x: f64) -> OffsetReading
 }
 
 // The whole offset of an instant of the range.
-fn write_on(axis: Axis, t: i64) -> OffsetAnswer
+fn write_on(axis: Axis, t: i64) -> Result<i64, Refusal>
     requires { (in_range axis.calendar axis.reference ≡ true) × (in_range axis.calendar t ≡ true) }
     ensures { result ≡ offset_on axis t }
 {
@@ -128,27 +97,23 @@ fn write_on(axis: Axis, t: i64) -> OffsetAnswer
 // ---- on any axis
 
 // A whole offset; OutOfRange for the reference, then for the instant.
-pub fn read_whole(axis: Axis, n: i64) -> OffsetReading
+pub fn read_whole(axis: Axis, n: i64) -> Result<OffsetReading, Refusal>
     ensures { result ≡ with_days_back (read_whole_on axis n) (whole_back axis n) }
 {
-    match check_axis(axis) {
-        AxisCheck::Refused(r) => return axis_types::unmoved(Reading::Refused(r)),
-        AxisCheck::Good => return read_whole_on(axis, n),
-    }
+    check_axis(axis)?;
+    read_whole_on(axis, n)
 }
 
 // A double; OutOfRange for the reference, then NotFinite, in calendar mode Inexact where it is not whole, then OutOfRange.
-pub fn read_double(axis: Axis, x: f64) -> OffsetReading
+pub fn read_double(axis: Axis, x: f64) -> Result<OffsetReading, Refusal>
     ensures { result ≡ with_days_back (read_double_on axis x) (double_back axis x) }
 {
-    match check_axis(axis) {
-        AxisCheck::Refused(r) => return axis_types::unmoved(Reading::Refused(r)),
-        AxisCheck::Good => return read_double_on(axis, x),
-    }
+    check_axis(axis)?;
+    read_double_on(axis, x)
 }
 
 // An offset, whole or double.
-pub fn read(axis: Axis, offset: Offset) -> OffsetReading
+pub fn read(axis: Axis, offset: Offset) -> Result<OffsetReading, Refusal>
     ensures { result ≡ with_days_back (read_offset axis offset) (offset_back axis offset) }
 {
     match offset {
@@ -158,31 +123,23 @@ pub fn read(axis: Axis, offset: Offset) -> OffsetReading
 }
 
 // The whole offset that reads as an instant; OutOfRange for the reference, then for the instant, then Inexact where there is none.
-pub fn write_instant(axis: Axis, t: i64) -> OffsetAnswer
+pub fn write_instant(axis: Axis, t: i64) -> Result<i64, Refusal>
     ensures { result ≡ write_instant_on axis t }
 {
     let c = axis.calendar;
-    match check_axis(axis) {
-        AxisCheck::Refused(r) => return OffsetAnswer::Refused(r),
-        AxisCheck::Good => {
-            if instant::in_range(c, t) {
-                return write_on(axis, t);
-            }
-            return OffsetAnswer::Refused(Refusal::OutOfRange);
-        }
+    check_axis(axis)?;
+    if instant::in_range(c, t) {
+        return write_on(axis, t);
     }
+    Err(Refusal::OutOfRange)
 }
 
 // The same of fields; OutOfRange for the reference, then as their instant is, then Inexact.
-pub fn write_fields(axis: Axis, f: Fields) -> OffsetAnswer
+pub fn write_fields(axis: Axis, f: Fields) -> Result<i64, Refusal>
     ensures { result ≡ write_fields_on axis f }
 {
     let c = axis.calendar;
-    match check_axis(axis) {
-        AxisCheck::Refused(r) => return OffsetAnswer::Refused(r),
-        AxisCheck::Good => match instant::instant_of(c, f) {
-            InstantAnswer::Refused(r) => return OffsetAnswer::Refused(r),
-            InstantAnswer::Is(t) => return write_on(axis, t),
-        },
-    }
+    check_axis(axis)?;
+    let t = instant::instant_of(c, f)?;
+    write_on(axis, t)
 }

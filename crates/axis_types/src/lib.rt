@@ -41,35 +41,25 @@ pub enum Offset {
     Double(f64),
 }
 
-// What an offset is read as: an instant and whether it is the exact time, or a refusal.
-#[derive(Clone, Copy)]
-pub enum Reading {
-    At(i64, bool),
-    Refused(Refusal),
-}
-
-// What an offset is read as when it is read alone: the reading, and the days that the day of the month was stepped back, 0 beside a refusal.
+// What an offset is read as when it is read alone: an instant, whether it is the exact time, and the days that the day of the month was
+// stepped back.
 #[derive(Clone, Copy)]
 pub struct OffsetReading {
-    pub reading: Reading,
+    pub instant: i64,
+    pub exact: bool,
     pub days_back: u32,
 }
 
-// The whole offset that an instant is written as, or a refusal.
-#[derive(Clone, Copy)]
-pub enum OffsetAnswer {
-    Is(i64),
-    Refused(Refusal),
-}
-
-// A reading whose day is the one asked for, or a refusal.
-pub fn unmoved(reading: Reading) -> OffsetReading
+// A reading whose day is the one asked for.
+pub fn unmoved(reading: Result<(i64, bool), Refusal>) -> Result<OffsetReading, Refusal>
     ensures { result ≡ with_days_back reading 0 }
 {
-    OffsetReading {
-        reading,
+    let (instant, exact) = reading?;
+    Ok(OffsetReading {
+        instant,
+        exact,
         days_back: 0,
-    }
+    })
 }
 
 pub fn microseconds(p: Period) -> u64

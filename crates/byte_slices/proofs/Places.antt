@@ -1,27 +1,43 @@
--- How far a search has come: the first place of a byte from a place on, by the byte that stands there.
-use Rattle.std.specs.Prelude.{◌≡◌, ◌<◌, ◌≤◌, ℕ, List, ◌+◌, length, get_or}
-use Prim.Native.Nat.{suc}
-use Rattle.std.proofs.Common.{arith, subst, ap, ◌∙◌}
-use Rattle.std.proofs.Math.Seq.{slice-cons, slice_empty}
-use Rattle.std.proofs.lemmas.Bool.{eq-eqb, ne_eqb}
+-- The first place of a byte, as std says it of `position`.
+use Rattle.std.proofs.Common.{◌≡◌, ◌≤◌, ℕ, List, Bool, true, false, ◌+◌, ◌-◌, ◌==◌, length, take, drop, Some, None, cond, not, nat_lt, ltb-false, length-take, length-drop, arith, refl, sym, ap, ◌∙◌}
+use Rattle.std.specs.List.{position, position_or_len}
+use Rattle.std.proofs.lemmas.List.{drop-take}
+use Rattle.std.proofs.lemmas.List.Sums.{prefix_len-le-length}
+use Rattle.std.proofs.lemmas.List.Recursion.{is_position_or_len}
 use Rattle.byte_slices.specs.Bytes.{slice, index_of, index_after}
 
--- the byte stands there
-pub found : (s : List ℕ) (i to c : ℕ) → i < to → to ≤ length s → get_or s i 0 ≡ c → index_of c (slice i to s) ≡ 0
-unfolding slice index_of
-found s i to c h k e = ap (index_of c) (slice-cons i to s 0 h k) ∙ ap (λ t. index_after t (index_of c (slice (suc i) to s))) (eq-eqb _ _ e)
+index_is : (c : ℕ) (s : List ℕ) → index_of c s ≡ position_or_len (λ b. b == c) s
+unfolding index_of
+index_is c s = is_position_or_len (index_of c) (λ b. b == c) refl (λ b t. by_test (b == c) (index_of c t)) s
+  where
+    by_test : (t : Bool) (k : ℕ) → index_after t k ≡ cond t 0 (1 + k)
+    by_test true k = refl
+    by_test false k = omega arith
 
--- another byte stands there
-passed_suc : (s : List ℕ) (i to c : ℕ) → i < to → to ≤ length s → (get_or s i 0 ≡ c → ⊥) → index_of c (slice i to s) ≡ suc (index_of c (slice (suc i) to s))
-unfolding slice index_of
-passed_suc s i to c h k e = ap (index_of c) (slice-cons i to s 0 h k) ∙ ap (λ t. index_after t (index_of c (slice (suc i) to s))) (ne_eqb _ _ e)
+-- what `position` answers, of a test that passes first at k among n
+some_is : (k i : ℕ) (t : Bool) → cond t (Some k) None ≡ Some i → i ≡ k
+some_is k i true e = cc
+some_is k i false e = cc
 
-pub passed : (s : List ℕ) (i to c : ℕ) → i < to → to ≤ length s → (get_or s i 0 ≡ c → ⊥) → index_of c (slice i to s) ≡ suc (index_of c (slice (i + 1) to s))
-passed s i to c h k e =
-    let next : suc i ≡ i + 1 = omega arith in
-    subst (λ j. index_of c (slice i to s) ≡ suc (index_of c (slice j to s))) next (passed_suc s i to c h k e)
+none_is : (k n : ℕ) (t : Bool) → nat_lt k n ≡ t → cond t (Some k) None ≡ None → n ≤ k
+none_is k n true h e = cc
+none_is k n false h e = ltb-false k n h
 
--- nothing is left
-pub ended : (s : List ℕ) (to c : ℕ) → index_of c (slice to to s) ≡ 0
-unfolding slice index_of
-ended s to c = ap (index_of c) (slice_empty to s)
+module _ (s : List ℕ) (from to c : ℕ) (h : from ≤ to) where
+  abbrev part : List ℕ
+  part = take (to - from) (drop from s)
+
+  part_is : index_of c (slice from to s) ≡ position_or_len (λ b. b == c) part
+  unfolding slice
+  part_is =
+      let e : to ≡ from + (to - from) = omega arith in
+      ap (λ k. index_of c (drop from (take k s))) e ∙ (ap (index_of c) (drop-take from (to - from) s) ∙ index_is c part)
+
+  pub found : (i : ℕ) → position (λ b. b == c) part ≡ Some i → from + i ≡ from + index_of c (slice from to s)
+  found i e = ap (λ k. from + k) (some_is (position_or_len (λ b. b == c) part) i (nat_lt (position_or_len (λ b. b == c) part) (length part)) e ∙ sym part_is)
+
+  pub missed : to ≤ length s → position (λ b. b == c) part ≡ None → to ≡ from + index_of c (slice from to s)
+  missed l e =
+      let n = none_is (position_or_len (λ b. b == c) part) (length part) (nat_lt (position_or_len (λ b. b == c) part) (length part)) refl e in
+      let m = prefix_len-le-length (λ b. not (b == c)) part in
+      omega (arith, part_is, length-take (to - from) (drop from s), length-drop from s)

@@ -1,4 +1,5 @@
 -- The answers, from tests on a day number with its bias of 2^63.
+use Rattle.std.specs.Prelude.{Result, Ok, Err}
 use mathlib.Core.Path.{◌≡◌, refl, sym, ap, ◌∙◌}
 use mathlib.Core.Bool.{Bool, true, false, ◌&&◌, cond}
 use Prim.Native.Nat.{ℕ, ◌+◌, ◌-◌, ◌<◌, ◌≤◌}
@@ -16,20 +17,19 @@ use Rattle.calendar.specs.Answers.{date_answer, is_possible, fault_with, refusal
 use Rattle.calendar.specs.Closed.{epoch_day, first_day, end_day}
 use Rattle.calendar.specs.declared.Calendar.{Calendar}
 use Rattle.calendar.specs.declared.Date.{Date}
-use Rattle.calendar.specs.declared.DateAnswer.{DateAnswer}
-use Rattle.calendar.specs.declared.DayAnswer.{DayAnswer}
 use Rattle.calendar.proofs.Range.{range, small, wide, low_day, high_day}
 use Rattle.calendar.proofs.Existing.{exists_possible}
 use Rattle.calendar.proofs.Numbering.{number_is}
+use Rattle.refusal.specs.declared.Refusal.{Refusal}
 
 module _ (c : Calendar) where
-  pub out_of_range : (z : ℤ) → in_years (date_of c z).year ≡ false → DateAnswer.Refused OutOfRange ≡ date_answer c z
+  pub out_of_range : (z : ℤ) → in_years (date_of c z).year ≡ false → Err OutOfRange ≡ date_answer c z
   unfolding date_answer
-  out_of_range z h = ap (λ (t : Bool). cond t (DateAnswer.Is (date_of c z)) (DateAnswer.Refused OutOfRange)) (sym h)
+  out_of_range z h = ap (λ (t : Bool). cond t (Ok (date_of c z)) (Err OutOfRange)) (sym h)
 
-  pub in_range_lem : (z : ℤ) → in_years (date_of c z).year ≡ true → DateAnswer.Is (date_of c z) ≡ date_answer c z
+  pub in_range_lem : (z : ℤ) → in_years (date_of c z).year ≡ true → Ok (date_of c z) ≡ date_answer c z
   unfolding date_answer
-  in_range_lem z h = ap (λ (t : Bool). cond t (DateAnswer.Is (date_of c z)) (DateAnswer.Refused OutOfRange)) (sym h)
+  in_range_lem z h = ap (λ (t : Bool). cond t (Ok (date_of c z)) (Err OutOfRange)) (sym h)
 
   -- the range of a raised day number
   range_biased : (k : ℕ) → in_years (date_of c (unbiased k)).year ≡ (leb (first_day c + (9223372036854775808 - epoch_day c)) k && leb k (end_day c - 1 + (9223372036854775808 - epoch_day c)))
@@ -96,31 +96,31 @@ module _ (rest : Bool) (c : Calendar) (x : Date) where
 -- ---- its day number
 
 module _ (rest : Bool) (c : Calendar) (x : Date) where
-  pub day_refused : (rest && (in_years x.year && exists c x)) ≡ false → DayAnswer.Refused (refusal_with rest c x) ≡ day_with rest c x
+  pub day_refused : (rest && (in_years x.year && exists c x)) ≡ false → Err (refusal_with rest c x) ≡ day_with rest c x
   unfolding day_with
   day_refused h = rw h
 
-  pub year_out : in_years x.year ≡ false → DayAnswer.Refused OutOfRange ≡ day_with rest c x
-  year_out h = ap DayAnswer.Refused (refused_past rest c x h) ∙ day_refused (right_out rest (in_years x.year && exists c x) (left_out (in_years x.year) (exists c x) h))
+  pub year_out : in_years x.year ≡ false → Err OutOfRange ≡ day_with rest c x
+  year_out h = ap Err (refused_past rest c x h) ∙ day_refused (right_out rest (in_years x.year && exists c x) (left_out (in_years x.year) (exists c x) h))
 
-  pub day_given : (z : ℤ) → rest ≡ true → in_years x.year ≡ true → exists c x ≡ true → date_of c z ≡ x → DayAnswer.Is z ≡ day_with rest c x
+  pub day_given : (z : ℤ) → rest ≡ true → in_years x.year ≡ true → exists c x ≡ true → date_of c z ≡ x → Ok z ≡ day_with rest c x
   unfolding day_with
-  day_given z p h g e = rw (p, h, g) (ap DayAnswer.Is (sym (number_is c x z h e)))
+  day_given z p h g e = rw (p, h, g) (ap Ok (sym (number_is c x z h e)))
 
   -- one of the five
-  pub data DayOutcome : DayAnswer → Type 0 where
-    past : in_years x.year ≡ false → DayOutcome (DayAnswer.Refused OutOfRange)
-    impossible : in_years x.year ≡ true → (rest && is_possible x.month x.day) ≡ false → DayOutcome (DayAnswer.Refused ImpossibleField)
-    missing : in_years x.year ≡ true → (rest && is_possible x.month x.day) ≡ true → exists c x ≡ false → dropped c x ≡ false → DayOutcome (DayAnswer.Refused MissingDate)
-    was_dropped : in_years x.year ≡ true → (rest && is_possible x.month x.day) ≡ true → exists c x ≡ false → dropped c x ≡ true → DayOutcome (DayAnswer.Refused DroppedDate)
-    there : in_years x.year ≡ true → (rest && is_possible x.month x.day) ≡ true → exists c x ≡ true → DayOutcome (DayAnswer.Is (day_number c x))
+  pub data DayOutcome : Result ℤ Refusal → Type 0 where
+    past : in_years x.year ≡ false → DayOutcome (Err OutOfRange)
+    impossible : in_years x.year ≡ true → (rest && is_possible x.month x.day) ≡ false → DayOutcome (Err ImpossibleField)
+    missing : in_years x.year ≡ true → (rest && is_possible x.month x.day) ≡ true → exists c x ≡ false → dropped c x ≡ false → DayOutcome (Err MissingDate)
+    was_dropped : in_years x.year ≡ true → (rest && is_possible x.month x.day) ≡ true → exists c x ≡ false → dropped c x ≡ true → DayOutcome (Err DroppedDate)
+    there : in_years x.year ≡ true → (rest && is_possible x.month x.day) ≡ true → exists c x ≡ true → DayOutcome (Ok (day_number c x))
 
   pub day_outcome : DayOutcome (day_with rest c x)
   unfolding day_with refusal_with fault_with
   day_outcome = go rest (in_years x.year) (exists c x) (is_possible x.month x.day) (dropped c x) refl refl refl refl refl
     where
       go : (r h e p d : Bool) → rest ≡ r → in_years x.year ≡ h → exists c x ≡ e → is_possible x.month x.day ≡ p → dropped c x ≡ d
-          → DayOutcome (cond (r && (h && e)) (DayAnswer.Is (day_number c x)) (DayAnswer.Refused (cond h (cond (r && p) (cond d DroppedDate MissingDate) ImpossibleField) OutOfRange)))
+          → DayOutcome (cond (r && (h && e)) (Ok (day_number c x)) (Err (cond h (cond (r && p) (cond d DroppedDate MissingDate) ImpossibleField) OutOfRange)))
       go true false e p d a b f g k = past b
       go false false e p d a b f g k = past b
       go false true e p d a b f g k = impossible b (left_out rest (is_possible x.month x.day) a)
@@ -129,7 +129,7 @@ module _ (rest : Bool) (c : Calendar) (x : Date) where
       go true true false true true a b f g k = was_dropped b (both rest (is_possible x.month x.day) a g) f k
       go true true false true false a b f g k = missing b (both rest (is_possible x.month x.day) a g) f k
 
-pub date_there : (c : Calendar) (x : Date) (z : ℤ) → in_years x.year ≡ true → exists c x ≡ true → date_of c z ≡ x → DayAnswer.Is z ≡ day_answer c x
+pub date_there : (c : Calendar) (x : Date) (z : ℤ) → in_years x.year ≡ true → exists c x ≡ true → date_of c z ≡ x → Ok z ≡ day_answer c x
 date_there c x z = day_given true c x z refl
 
 -- the years -9999 to 9999, of a year with its bias of 2^63

@@ -1,4 +1,5 @@
 -- A date by the count of its year from -10000, as `year_count` gives it.
+use Rattle.std.specs.Prelude.{Option, Some, None}
 use mathlib.Core.Path.{◌≡◌, refl, sym, ap, ◌∙◌, subst}
 use mathlib.Core.Bool.{Bool, true, true≢false}
 use Prim.Native.Nat.{ℕ, ◌≤◌, ◌<◌}
@@ -11,7 +12,6 @@ use Rattle.calendar.specs.Calendar.{has_year_zero, in_years, date}
 use Rattle.calendar.specs.Closed.{year_at, Counted}
 use Rattle.calendar.specs.declared.Calendar.{Calendar}
 use Rattle.calendar.specs.declared.Date.{Date}
-use Rattle.calendar.specs.declared.YearCount.{YearCount}
 use Rattle.calendar.proofs.Existing.{date_eq, no_year_lem, Valid}
 use Rattle.calendar.proofs.Labels.{first_year, first_low, year_in}
 use Rattle.calendar.proofs.Answering.{year_biased}
@@ -24,16 +24,16 @@ module _ (c : Calendar) (x : Date) (k : ℕ) (is : unbiased k ≡ x.year) (insid
       (leb-true 9223372036854765809 k w.0, leb-true k 9223372036854785807 w.1)
 
   -- z tells whether there is a year 0, and r what the count of the year is
-  module _ (z : Bool) (e : z ≡ has_year_zero c) (r : YearCount) (h : Counted z (unbiased k) r) where
-    pub no_count : r ≡ YearCount.Missing → Valid c x → ⊥
+  module _ (z : Bool) (e : z ≡ has_year_zero c) (r : Option ℕ) (h : Counted z (unbiased k) r) where
+    pub no_count : r ≡ None → Valid c x → ⊥
     no_count m v =
-        let told : Counted z (unbiased k) YearCount.Missing = subst (Counted z (unbiased k)) m h in
+        let told : Counted z (unbiased k) None = subst (Counted z (unbiased k)) m h in
         true≢false (sym (no_year_lem c x.year (sym e ∙ told.0) (sym is ∙ told.1)) ∙ v.there)
 
-    module _ (n : ℕ) (m : r ≡ YearCount.Is n) where
+    module _ (n : ℕ) (m : r ≡ Some n) where
       count_is : year_at (has_year_zero c) n ≡ x.year
       count_is =
-          let told : Counted z (unbiased k) (YearCount.Is n) = subst (Counted z (unbiased k)) m h in
+          let told : Counted z (unbiased k) (Some n) = subst (Counted z (unbiased k)) m h in
           ap (λ (t : Bool). year_at t n) (sym e) ∙ (told ∙ is)
 
       pub date_is : date (year_at (has_year_zero c) n) x.month x.day ≡ x

@@ -1,11 +1,12 @@
 -- From the count of a date to its day number plus 2^63, or that there is none.
+use Rattle.std.specs.Prelude.{Some, None}
 use mathlib.Core.Path.{◌≡◌, refl, sym, ap, ◌∙◌}
 use mathlib.Core.Bool.{Bool, true, false, ◌&&◌, cond, true≢false}
 use Prim.Native.Nat.{ℕ, ◌+◌, ◌-◌, ◌<◌, ◌≤◌}
 use native.Mathlib.Omega.{arith}
 use lib.Dec.{ltb}
 use lib.IntN.{ℤ, sub_ℕ}
-use borrow.Author.Tests.{lt-ltb, ltb-true, ltb-false}
+use borrow.Author.Tests.{ltb-true, ltb-false}
 use Rattle.signed.specs.Bias.{unbiased}
 use Rattle.signed.proofs.Tests.{to_false}
 use Rattle.signed.proofs.Differences.{same_diff}
@@ -28,14 +29,14 @@ module _ (c : Calendar) (y m d : ℕ) where
   abbrev k : CountedRow
   k = counts c
 
-  none : (exists c x ≡ true → ⊥) → DayOrNone c x 0
-  none f = record { there = to_false (exists c x) f; dated = λ g. absurd (omega arith) }
+  none : (exists c x ≡ true → ⊥) → DayOrNone c x None
+  none f = to_false (exists c x) f
 
-  some : (n : ℕ) (z : ℤ) → 0 < n → unbiased n ≡ z → DayIs (row_of c) (cutover c) y m d z → DayOrNone c x n
+  some : (n : ℕ) (z : ℤ) → unbiased n ≡ z → DayIs (row_of c) (cutover c) y m d z → DayOrNone c x (Some n)
   unfolding exists date_of
-  some n z g e i = record { there = i.there ∙ sym (lt-ltb 0 n g); dated = λ l. ap (date_by (row_of c)) e ∙ i.dated }
+  some n z e i = (i.there, ap (date_by (row_of c)) e ∙ i.dated)
 
-  pub none_possible : is_possible m d ≡ false → DayOrNone c x 0
+  pub none_possible : is_possible m d ≡ false → DayOrNone c x None
   none_possible e = none (λ h. true≢false (sym (exists_possible c x h) ∙ e))
 
   module _ (possible : is_possible m d ≡ true) where
@@ -56,9 +57,9 @@ module _ (c : Calendar) (y m d : ℕ) where
       early_answer = go (ltb (d - 1) (month_days (kind_at k.early y) (m - 1))) (ltb (j - lag k) (late_from k)) refl refl
         where
           go : (a b : Bool) → ltb (d - 1) (month_days (kind_at k.early y) (m - 1)) ≡ a → ltb (j - lag k) (late_from k) ≡ b
-              → DayOrNone c x (cond (a && b) (j - lag k + (9223372036854775808 - row_epoch k)) 0)
+              → DayOrNone c x (cond (a && b) (Some (j - lag k + (9223372036854775808 - row_epoch k))) None)
           go true true p q =
-              some (j - lag k + (9223372036854775808 - row_epoch k)) (sub_ℕ j (row_epoch k + lag k)) (omega (arith, small c))
+              some (j - lag k + (9223372036854775808 - row_epoch k)) (sub_ℕ j (row_epoch k + lag k))
               (same_diff (j - lag k + (9223372036854775808 - row_epoch k)) 9223372036854775808 j (row_epoch k + lag k) (omega (arith, lagging, small c)))
               (early_there (row_of c) (cutover c) y m d (by_length k.early y m d possible ∙ p) (omega (arith, ltb-true (j - lag k) (late_from k) q)))
           go true false p q = none (λ t. omega (arith, (kept t).1, ltb-false (j - lag k) (late_from k) q, lagging))
@@ -68,11 +69,11 @@ module _ (c : Calendar) (y m d : ℕ) where
       abbrev n : ℕ
       n = count k.late (day_place y m d)
 
-      pub late_answer : ltb (d - 1) (month_days (kind_at k.late y) (m - 1)) ≡ true → DayOrNone c x (n + (9223372036854775808 - row_epoch k))
+      pub late_answer : ltb (d - 1) (month_days (kind_at k.late y) (m - 1)) ≡ true → DayOrNone c x (Some (n + (9223372036854775808 - row_epoch k)))
       late_answer p =
-          some (n + (9223372036854775808 - row_epoch k)) (sub_ℕ n (row_epoch k)) (omega (arith, small c)) (same_diff (n + (9223372036854775808 - row_epoch k)) 9223372036854775808 n (row_epoch k) (omega (arith, small c)))
+          some (n + (9223372036854775808 - row_epoch k)) (sub_ℕ n (row_epoch k)) (same_diff (n + (9223372036854775808 - row_epoch k)) 9223372036854775808 n (row_epoch k) (omega (arith, small c)))
           (late_there (row_of c) (cutover c) y m d (by_length k.late y m d possible ∙ p) (ltb-false n (late_from k) e))
 
-      pub late_none : ltb (d - 1) (month_days (kind_at k.late y) (m - 1)) ≡ false → DayOrNone c x 0
+      pub late_none : ltb (d - 1) (month_days (kind_at k.late y) (m - 1)) ≡ false → DayOrNone c x None
       unfolding exists
       late_none p = none (λ t. true≢false (sym (counted_late (row_of c) (cutover c) y m d t e) ∙ (by_length k.late y m d possible ∙ p)))

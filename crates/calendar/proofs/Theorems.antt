@@ -1,5 +1,6 @@
 -- What is proved of the calendars, in one place. `c` is any of the six calendars, z and w any integers. Each of the first seven is a
 -- law of every row whose cutover meets `Days.Cutover`, read off for the rows of the calendars.
+use Rattle.std.specs.Prelude.{Result, Ok}
 use mathlib.Core.Path.{◌≡◌, refl, sym, ap, ◌∙◌}
 use mathlib.Core.Bool.{Bool, true, false, ◌&&◌, cond, true≢false}
 use Prim.Native.Nat.{ℕ, zero, suc, ◌+◌, ◌-◌, ◌<◌, ◌^◌}
@@ -19,7 +20,6 @@ use Rattle.calendar.specs.Closed.{year_start, year_at, count, place_of, label, d
 use Rattle.calendar.specs.declared.Calendar.{Calendar}
 use Rattle.calendar.specs.declared.Calendar.TheVariants.{Standard, ProlepticGregorian, Julian}
 use Rattle.calendar.specs.declared.Date.{Date}
-use Rattle.calendar.specs.declared.DayAnswer.{DayAnswer}
 use Rattle.calendar.specs.declared.place.Place.{Place}
 use Rattle.calendar.specs.declared.rule.Rule.{Rule}
 use Rattle.calendar.proofs.Ordered.{before_of, earlier_of}
@@ -38,6 +38,7 @@ use Rattle.calendar.proofs.Counting.{numbered}
 use Rattle.calendar.proofs.Numbering as Numbering
 use Rattle.calendar.proofs.Numbering.{number_is}
 use Rattle.calendar.proofs.Answering.{DayOutcome, past, impossible, missing, was_dropped, there, day_outcome}
+use Rattle.refusal.specs.declared.Refusal.{Refusal}
 
 -- the count of a year from -10000
 pub record Count (z : Bool) (y : ℤ) : Type 0 where
@@ -156,10 +157,10 @@ pub record Numbered (rest : Bool) (c : Calendar) (x : Date) (z : ℤ) : Type 0 w
   pub there : exists c x ≡ true
   pub is : date_of c z ≡ x
 
-pub answered : (rest : Bool) (c : Calendar) (x : Date) (z : ℤ) → DayAnswer.Is z ≡ day_with rest c x → Numbered rest c x z
+pub answered : (rest : Bool) (c : Calendar) (x : Date) (z : ℤ) → Ok z ≡ day_with rest c x → Numbered rest c x z
 answered rest c x z = go (day_outcome rest c x)
   where
-    go : {a : DayAnswer} → DayOutcome rest c x a → DayAnswer.Is z ≡ a → Numbered rest c x z
+    go : {a : Result ℤ Refusal} → DayOutcome rest c x a → Ok z ≡ a → Numbered rest c x z
     go (past h) e = absurd (let y : ◌≡◌ {A = ℕ} 0 1 = (cc) in omega arith)
     go (impossible h p) e = absurd (let y : ◌≡◌ {A = ℕ} 0 1 = (cc) in omega arith)
     go (missing h p g d) e = absurd (let y : ◌≡◌ {A = ℕ} 0 1 = (cc) in omega arith)

@@ -1,5 +1,5 @@
 -- The answers of the two public calls: the date of a day number, and the day number of a date.
-use Rattle.std.specs.Prelude.{Bool, true, ◌&&◌, cond, ℕ, zero, suc, leb, ℤ, negsuc}
+use Rattle.std.specs.Prelude.{Bool, true, ◌&&◌, cond, ℕ, zero, suc, leb, ℤ, negsuc, Result, Ok, Err}
 use Rattle.std.proofs.Math.IntN.{suc_ℤ}
 use Rattle.refusal.specs.declared.Refusal.{Refusal}
 use Rattle.refusal.specs.declared.Refusal.TheVariants.{ImpossibleField, OutOfRange, MissingDate, DroppedDate}
@@ -7,12 +7,10 @@ use Rattle.calendar.specs.Calendar.{date_of, exists, dropped, in_years}
 use Rattle.calendar.specs.Order.{same_date}
 use Rattle.calendar.specs.declared.Calendar.{Calendar}
 use Rattle.calendar.specs.declared.Date.{Date}
-use Rattle.calendar.specs.declared.DateAnswer.{DateAnswer}
-use Rattle.calendar.specs.declared.DayAnswer.{DayAnswer}
 
 -- the date of day number n; refused where its year lies past -9999 to 9999
-unfoldable pub date_answer : Calendar → ℤ → DateAnswer
-date_answer c n = cond (in_years (date_of c n).year) (DateAnswer.Is (date_of c n)) (DateAnswer.Refused OutOfRange)
+unfoldable pub date_answer : Calendar → ℤ → Result Date Refusal
+date_answer c n = cond (in_years (date_of c n).year) (Ok (date_of c n)) (Err OutOfRange)
 
 -- the first of the k day numbers from z on whose date is x, or the number after them
 unfoldable pub number_from : Calendar → Date → ℕ → ℤ → ℤ
@@ -46,9 +44,9 @@ unfoldable pub refusal_with : Bool → Calendar → Date → Refusal
 refusal_with rest c x = cond (in_years x.year) (fault_with rest c x) OutOfRange
 
 -- the day number of a date with what stands beside it
-unfoldable pub day_with : Bool → Calendar → Date → DayAnswer
-day_with rest c x = cond (rest && (in_years x.year && exists c x)) (DayAnswer.Is (day_number c x)) (DayAnswer.Refused (refusal_with rest c x))
+unfoldable pub day_with : Bool → Calendar → Date → Result ℤ Refusal
+day_with rest c x = cond (rest && (in_years x.year && exists c x)) (Ok (day_number c x)) (Err (refusal_with rest c x))
 
 -- the day number of a date alone
-abbrev pub day_answer : Calendar → Date → DayAnswer
+abbrev pub day_answer : Calendar → Date → Result ℤ Refusal
 day_answer c x = day_with true c x

@@ -1,6 +1,6 @@
 -- Closed forms, which only inner functions compute; no promise to a caller of the library rests on them. proofs/ joins them to the next-day rule.
 -- All over natural numbers: year y of a place is counted from year -10000, a month and a day from 0.
-use Rattle.std.specs.Prelude.{Bool, true, false, not, ◌&&◌, ◌||◌, cond, ℕ, zero, suc, ◌+◌, ◌-◌, ◌*◌, ◌/◌, ◌%◌, ◌<◌, ◌^◌, leb, ltb, eqb, ℤ, pos, ◌≡◌}
+use Rattle.std.specs.Prelude.{Bool, true, false, not, ◌&&◌, ◌||◌, cond, ℕ, zero, suc, ◌+◌, ◌-◌, ◌*◌, ◌/◌, ◌%◌, ◌<◌, ◌^◌, leb, ltb, eqb, ℤ, pos, ◌≡◌, Option, Some, None}
 use Rattle.std.proofs.Math.IntN.{sub_ℕ}
 use Rattle.signed.specs.Bias.{lift, unbiased}
 use Rattle.calendar.specs.Plain.{month_days, of_leap, date}
@@ -12,9 +12,6 @@ use Rattle.calendar.specs.declared.rule.Rule.{Rule}
 use Rattle.calendar.specs.declared.rule.YearDay.{YearDay}
 use Rattle.calendar.specs.declared.place.Place.{Place}
 use Rattle.calendar.specs.declared.row.Parts.{Parts}
-use Rattle.calendar.specs.declared.YearCount.{YearCount}
-use Rattle.calendar.specs.declared.FoundDay.{FoundDay}
-use Rattle.calendar.specs.declared.gregorian.DaySince.{DaySince}
 
 -- ---- years
 
@@ -109,19 +106,19 @@ abbrev pub label : Bool → Place → Date
 label z p = date (year_at z p.y) (p.m + 1) (p.i + 1)
 
 -- the count from -10000 of a year, where the calendar has the year
-abbrev pub Counted : Bool → ℤ → YearCount → Type 0
-Counted z y (YearCount.Is n) = year_at z n ≡ y
-Counted z y YearCount.Missing = (z ≡ false) × (y ≡ pos 0)
+abbrev pub Counted : Bool → ℤ → Option ℕ → Type 0
+Counted z y (Some n) = year_at z n ≡ y
+Counted z y None = (z ≡ false) × (y ≡ pos 0)
 
 -- the day number of a date of the years -9999 to 9999 that exists, or that there is none
-abbrev pub Found : Calendar → Date → FoundDay → Type 0
-Found c x (FoundDay.Is n) = ((in_years x.year && exists c x) ≡ true) × (date_of c n ≡ x)
-Found c x FoundDay.Nothing = (in_years x.year && exists c x) ≡ false
+abbrev pub Found : Calendar → Date → Option ℤ → Type 0
+Found c x (Some n) = ((in_years x.year && exists c x) ≡ true) × (date_of c n ≡ x)
+Found c x None = (in_years x.year && exists c x) ≡ false
 
 -- the day number of a date of `proleptic_gregorian`, or that none from 0 to 2^63 - 1 has the date
-abbrev pub IsDaySince : Date → DaySince → Type 0
-IsDaySince x (DaySince.Is n) = date_of ProlepticGregorian (pos n) ≡ x
-IsDaySince x DaySince.Nothing = (n : ℕ) → n < 2 ^ 63 → date_of ProlepticGregorian (pos n) ≡ x → ⊥
+abbrev pub IsDaySince : Date → Option ℕ → Type 0
+IsDaySince x (Some n) = date_of ProlepticGregorian (pos n) ≡ x
+IsDaySince x None = (n : ℕ) → n < 2 ^ 63 → date_of ProlepticGregorian (pos n) ≡ x → ⊥
 
 -- the tests of a date of year y by its month and day, and its place
 
@@ -217,16 +214,16 @@ first_day c = row_start (counts c)
 abbrev pub end_day : Calendar → ℕ
 end_day c = row_end (counts c)
 
--- the day number of a place of the early part plus 2^63, or 0 where the early rule does not have it, or has it after the last day kept
-unfoldable pub early_day : CountedRow → Place → ℕ
+-- the day number of a place of the early part plus 2^63; none where the early rule does not have it, or has it after the last day kept
+unfoldable pub early_day : CountedRow → Place → Option ℕ
 early_day k p =
     let n = count k.early p - lag k in
-    cond (ltb p.i (month_days (kind_at k.early p.y) p.m) && ltb n (late_from k)) (n + (9223372036854775808 - row_epoch k)) 0
+    cond (ltb p.i (month_days (kind_at k.early p.y) p.m) && ltb n (late_from k)) (Some (n + (9223372036854775808 - row_epoch k))) None
 
--- n is the day number of a date plus 2^63, or 0 where the date does not exist
-pub record DayOrNone (c : Calendar) (x : Date) (n : ℕ) : Type 0 where
-  pub there : exists c x ≡ ltb 0 n
-  pub dated : 0 < n → date_of c (unbiased n) ≡ x
+-- the day number of a date plus 2^63; none where the date does not exist
+abbrev pub DayOrNone : Calendar → Date → Option ℕ → Type 0
+DayOrNone c x (Some n) = (exists c x ≡ true) × (date_of c (unbiased n) ≡ x)
+DayOrNone c x None = exists c x ≡ false
 
 -- the number w stands for the place of day z
 pub record PlaceOfDay (c : Calendar) (z : ℤ) (w : ℕ) : Type 0 where

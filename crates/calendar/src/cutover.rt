@@ -25,15 +25,13 @@ pub fn is_allowed(k: u32) -> bool
     let last = place::place_of(Rule::Julian, LAST_KEPT + days);
     let dropped = rule::julian_count(FIRST + 306 + days) - (LAST_KEPT + 307 + days);
     let kind = rule::kind_of_year(Rule::Julian, last.y);
-    return last.i + dropped < month::month_length(kind, last.m);
+    last.i + dropped < month::month_length(kind, last.m)
 }
 
 // The days of the cutover that a calendar uses: the given ones, or 0 where they are not allowed.
 pub fn days_used(k: u32) -> u64
     ensures { result ≡ days_used k }
 {
-    if is_allowed(k) {
-        return k as u64;
-    }
-    return 0;
+    // no Option: by its definition (specs/Calendar.antt) days that are not allowed are read as 0
+    if is_allowed(k) { k as u64 } else { 0 }
 }

@@ -16,30 +16,23 @@ pub fn exists_in_any_year(x: Date) -> bool
     ordinal::has_day(Rule::Gregorian, y, x.month, x.day)
 }
 
-// The day number of a date, counted from 1970-01-01, or that it has none from 0 to 2^63 - 1.
-#[derive(Clone, Copy)]
-pub enum DaySince {
-    Is(u64),
-    Nothing,
-}
-
 // The day number of a date. A year has at least 365 days, so a day number below 2^63 lies in a year below 2^55 - 10000.
-pub fn day_since_1970(x: Date) -> DaySince
+pub fn day_since_1970(x: Date) -> Option<u64>
     ensures { IsDaySince x result }
 {
     let k = signed::biased(x.year);
     if k < 0x8000_0000_0000_0000 + 1970 {
-        return DaySince::Nothing;
+        return None;
     }
     if 0x8080_0000_0000_0000 - 10000 <= k {
-        return DaySince::Nothing;
+        return None;
     }
     let y = k - (0x8000_0000_0000_0000 - 10000);
     if !ordinal::has_day(Rule::Gregorian, y, x.month, x.day) {
-        return DaySince::Nothing;
+        return None;
     }
     let p = ordinal::place_at(y, x.month, x.day);
-    return DaySince::Is(
+    return Some(
         place::days_before(Rule::Gregorian, p) - crate::epoch_day(Calendar::ProlepticGregorian),
     );
 }

@@ -32,25 +32,11 @@ pub enum Calendar {
 
 // A date as it is written: month and day count from 1.
 #[repr(C)]
-#[derive(Clone, Copy)]
+#[derive(Clone, Copy, PartialEq, Eq)]
 pub struct Date {
     pub year: i64,
     pub month: u32,
     pub day: u32,
-}
-
-// The date of a day number.
-#[derive(Clone, Copy)]
-pub enum DateAnswer {
-    Is(Date),
-    Refused(Refusal),
-}
-
-// The day number of a date.
-#[derive(Clone, Copy)]
-pub enum DayAnswer {
-    Is(i64),
-    Refused(Refusal),
 }
 
 // 1970-01-01, counted from the first place of the calendar's late rule, as the two days after it.
@@ -66,10 +52,7 @@ pub fn epoch_day(c: Calendar) -> u64
 pub fn first_year(zero: bool) -> u64
     ensures { result ≡ first_year zero }
 {
-    if zero {
-        return 1;
-    }
-    return 2;
+    if zero { 1 } else { 2 }
 }
 
 // The first day of year -9999.
@@ -81,7 +64,7 @@ pub fn first_day(c: Calendar) -> u64
     rule::year_start(early, first_year(r.zero)) - row::lag_of(c)
 }
 
-// The first day of year 10000.
+// The first day of year 10000. It differs from `epoch_day` in the year alone; one function for both would be called by two as long as these.
 pub fn end_day(c: Calendar) -> u64
     ensures { result ≡ end_day c }
 {
@@ -108,7 +91,7 @@ fn day_in_years(c: Calendar, k: u64) -> bool
     if k < 0x8000_0000_0000_0000 + 2800000 {
         return true;
     }
-    return k - origin(c) < end_day(c);
+    k - origin(c) < end_day(c)
 }
 
 // The place of such a day number.
@@ -120,25 +103,25 @@ pub fn place_in_years(c: Calendar, k: u64) -> u64
 }
 
 // The date of the day number k - 2^63; OutOfRange where its year lies past -9999 to 9999.
-pub fn date_of_biased_day(c: Calendar, k: u64) -> DateAnswer
+pub fn date_of_biased_day(c: Calendar, k: u64) -> Result<Date, Refusal>
     ensures { result ≡ date_answer c (unbiased k) }
 {
-    if day_in_years(c, k) {
-        return DateAnswer::Is(civil::date_of_packed(c, place_in_years(c, k)));
+    if !day_in_years(c, k) {
+        return Err(Refusal::OutOfRange);
     }
-    return DateAnswer::Refused(Refusal::OutOfRange);
+    Ok(civil::date_of_packed(c, place_in_years(c, k)))
 }
 
 // The date of a day number, counted from 1970-01-01; OutOfRange where its year lies past -9999 to 9999. It does not go by the call
 // above, so that both stay small enough to be inlined, and no answer passes through memory.
-pub fn date_of_day(c: Calendar, n: i64) -> DateAnswer
+pub fn date_of_day(c: Calendar, n: i64) -> Result<Date, Refusal>
     ensures { result ≡ date_answer c n }
 {
     let k = signed::biased(n);
-    if day_in_years(c, k) {
-        return DateAnswer::Is(civil::date_of_packed(c, place_in_years(c, k)));
+    if !day_in_years(c, k) {
+        return Err(Refusal::OutOfRange);
     }
-    return DateAnswer::Refused(Refusal::OutOfRange);
+    Ok(civil::date_of_packed(c, place_in_years(c, k)))
 }
 
 pub fn has_year_zero(c: Calendar) -> bool
@@ -148,66 +131,42 @@ pub fn has_year_zero(c: Calendar) -> bool
     r.zero
 }
 
-// A year as a count from -10000, or that the calendar has no such year.
-#[derive(Clone, Copy)]
-pub enum YearCount {
-    Is(u64),
-    Missing,
-}
-
 // The count of the year k - 2^63, with or without a year 0. Year 0 is asked for first: what is left then differs by one, and needs no
 // branch.
-pub fn year_count(zero: bool, k: u64) -> YearCount
+pub fn year_count(zero: bool, k: u64) -> Option<u64>
     requires { (9223372036854765809 ≤ k) × (k ≤ 9223372036854785807) }
     ensures { Counted zero (unbiased k) result }
 {
     if zero {
-        return YearCount::Is(k - (0x8000_0000_0000_0000 - 10000));
+        return Some(k - (0x8000_0000_0000_0000 - 10000));
     }
     if k == 0x8000_0000_0000_0000 {
-        return YearCount::Missing;
+        return None;
     }
     if k < 0x8000_0000_0000_0000 {
-        return YearCount::Is(k - (0x8000_0000_0000_0000 - 10001));
+        return Some(k - (0x8000_0000_0000_0000 - 10001));
     }
-    return YearCount::Is(k - (0x8000_0000_0000_0000 - 10000));
+    Some(k - (0x8000_0000_0000_0000 - 10000))
 }
 
 // Whether the year k - 2^63 lies in -9999 to 9999.
 fn in_years(k: u64) -> bool
     ensures { result ≡ in_years (unbiased k) }
 {
-    if k < 0x8000_0000_0000_0000 - 9999 {
-        return false;
-    }
-    return k <= 0x8000_0000_0000_0000 + 9999;
-}
-
-// The day number of a date, or that there is none.
-#[derive(Clone, Copy)]
-pub enum FoundDay {
-    Is(i64),
-    Nothing,
+    0x8000_0000_0000_0000 - 9999 <= k && k <= 0x8000_0000_0000_0000 + 9999
 }
 
 // The day number, counted from 1970-01-01, of a date of the years -9999 to 9999 that exists.
-pub fn found_day(c: Calendar, x: Date) -> FoundDay
+pub fn found_day(c: Calendar, x: Date) -> Option<i64>
     ensures { Found c x result }
 {
     let k = signed::biased(x.year);
     if !in_years(k) {
-        return FoundDay::Nothing;
+        return None;
     }
-    match year_count(has_year_zero(c), k) {
-        YearCount::Missing => return FoundDay::Nothing,
-        YearCount::Is(y) => {
-            let n = ordinal::biased_day(c, y, x.month, x.day);
-            if n == 0 {
-                return FoundDay::Nothing;
-            }
-            return FoundDay::Is(signed::unbiased(n));
-        }
-    }
+    let y = year_count(has_year_zero(c), k)?;
+    let n = ordinal::biased_day(c, y, x.month, x.day)?;
+    Some(signed::unbiased(n))
 }
 
 // Why a date for which no day is found is refused, or for what stands beside it; `rest` says that each field there is possible. OutOfRange
@@ -226,22 +185,18 @@ pub fn refusal_with(c: Calendar, x: Date, rest: bool) -> Refusal
         return Refusal::ImpossibleField;
     }
     match year_count(has_year_zero(c), k) {
-        YearCount::Missing => return Refusal::MissingDate,
-        YearCount::Is(y) => {
-            if ordinal::is_dropped(c, y, x.month, x.day) {
-                return Refusal::DroppedDate;
-            }
-            return Refusal::MissingDate;
-        }
+        None => Refusal::MissingDate,
+        Some(y) if ordinal::is_dropped(c, y, x.month, x.day) => Refusal::DroppedDate,
+        Some(_) => Refusal::MissingDate,
     }
 }
 
 // The day number of a date, or its refusal.
-pub fn day_of_date(c: Calendar, x: Date) -> DayAnswer
+pub fn day_of_date(c: Calendar, x: Date) -> Result<i64, Refusal>
     ensures { result ≡ day_answer c x }
 {
     match found_day(c, x) {
-        FoundDay::Is(n) => return DayAnswer::Is(n),
-        FoundDay::Nothing => return DayAnswer::Refused(refusal_with(c, x, true)),
+        Some(n) => Ok(n),
+        None => Err(refusal_with(c, x, true)),
     }
 }

@@ -1,4 +1,6 @@
 // Months within a year. Kinds of year: 0 common, 1 leap, 2 of 360 days; months and days count from 0.
+// A kind stays a number, and no enum: it is the line of the table `lengths` (specs/Plain.antt) and, but for 2, the days of the year past 365,
+// which the arithmetic below adds.
 ghost use Rattle.std.specs.Prelude.{◌≡◌, cond, ◌-◌, ◌<◌, ltb};
 ghost use Rattle.calendar.specs.Plain.{month_days};
 ghost use Rattle.calendar.specs.Closed.{month_start};
@@ -21,7 +23,7 @@ pub fn month_length(k: usize, m: usize) -> u64
     if m == FEBRUARY {
         return 28 + k as u64;
     }
-    return length;
+    length
 }
 
 // The days by which January and February together fall short of 61: what the months after them are early by.
@@ -29,10 +31,7 @@ fn short_days(k: u64, m: u64) -> u64
     requires { k < 2 }
     ensures { result ≡ cond (ltb m 2) 0 (2 - k) }
 {
-    if m < 2 {
-        return 0;
-    }
-    return 2 - k;
+    if m < 2 { 0 } else { 2 - k }
 }
 
 // The days of the year before a month.
@@ -45,5 +44,5 @@ pub fn month_start(k: usize, m: usize) -> u64
     if j == 2 {
         return 30 * n;
     }
-    return (367 * n + 5) / 12 - short_days(j, n);
+    (367 * n + 5) / 12 - short_days(j, n)
 }

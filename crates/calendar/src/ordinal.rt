@@ -12,16 +12,7 @@ use crate::{Calendar, place, row};
 pub fn is_possible(month: u32, day: u32) -> bool
     ensures { result ≡ is_possible month day }
 {
-    if month < 1 {
-        return false;
-    }
-    if 12 < month {
-        return false;
-    }
-    if day < 1 {
-        return false;
-    }
-    return day <= 31;
+    1 <= month && month <= 12 && 1 <= day && day <= 31
 }
 
 // The place of a date.
@@ -40,36 +31,33 @@ pub fn place_at(y: u64, month: u32, day: u32) -> Place
 pub fn has_day(r: Rule, y: u64, month: u32, day: u32) -> bool
     ensures { result ≡ has_day_at r y month day }
 {
-    if !is_possible(month, day) {
-        return false;
-    }
-    return place::is_proper(r, place_at(y, month, day));
+    is_possible(month, day) && place::is_proper(r, place_at(y, month, day))
 }
 
-// The day number of a place of the early part plus 2^63, or 0 where the early rule does not have it, or has it after the last day kept.
-fn early_day(c: Calendar, p: Place) -> u64
+// The day number of a place of the early part plus 2^63; none where the early rule does not have it, or has it after the last day kept.
+fn early_day(c: Calendar, p: Place) -> Option<u64>
     requires { (1 ≤ p.y) × ((p.y < 2 ^ 31) × ((p.m < 12) × (p.i < 31))) }
     ensures { result ≡ early_day (counts c) p }
 {
-    let r = row::rule_of(c, true);
-    if !place::is_proper(r, p) {
-        return 0;
+    let early = row::rule_of(c, true);
+    if !place::is_proper(early, p) {
+        return None;
     }
-    let n = place::days_before(r, p) - row::lag_of(c);
-    if row::is_early_day(c, n) {
-        return n + crate::origin(c);
+    let n = place::days_before(early, p) - row::lag_of(c);
+    if !row::is_early_day(c, n) {
+        return None;
     }
-    return 0;
+    Some(n + crate::origin(c))
 }
 
-// The day number of a date plus 2^63, or 0 where the date does not exist: a number goes in a register, and an answer would go through memory.
+// The day number of a date plus 2^63; none where the date does not exist.
 // What the late rule counts before the late part is early, if it exists at all.
-pub fn biased_day(c: Calendar, y: u64, month: u32, day: u32) -> u64
+pub fn biased_day(c: Calendar, y: u64, month: u32, day: u32) -> Option<u64>
     requires { (1 ≤ y) × (y < 2 ^ 31) }
     ensures { DayOrNone c (date (year_at (has_year_zero c) y) month day) result }
 {
     if !is_possible(month, day) {
-        return 0;
+        return None;
     }
     let p = place_at(y, month, day);
     let r = row::rule_of(c, false);
@@ -77,10 +65,10 @@ pub fn biased_day(c: Calendar, y: u64, month: u32, day: u32) -> u64
     if row::is_early_day(c, n) {
         return early_day(c, p);
     }
-    if place::is_proper(r, p) {
-        return n + crate::origin(c);
+    if !place::is_proper(r, p) {
+        return None;
     }
-    return 0;
+    Some(n + crate::origin(c))
 }
 
 // Whether a date comes before a place, as it is written.
@@ -97,7 +85,7 @@ fn is_before(y: u64, month: u32, day: u32, p: Place) -> bool
     if p.m < m - 1 {
         return false;
     }
-    return day as u64 <= p.i;
+    day as u64 <= p.i
 }
 
 // Whether a date is one that the calendar dropped: before the cutover, as it is written, the early rule has it, and it does not exist.
@@ -105,11 +93,7 @@ pub fn is_dropped(c: Calendar, y: u64, month: u32, day: u32) -> bool
     requires { (1 ≤ y) × (y < 2 ^ 31) }
     ensures { result ≡ dropped c (date (year_at (has_year_zero c) y) month day) }
 {
-    if !is_before(y, month, day, row::from_of(c)) {
-        return false;
-    }
-    if !has_day(row::rule_of(c, true), y, month, day) {
-        return false;
-    }
-    return biased_day(c, y, month, day) == 0;
+    is_before(y, month, day, row::from_of(c))
+        && has_day(row::rule_of(c, true), y, month, day)
+        && biased_day(c, y, month, day).is_none()
 }

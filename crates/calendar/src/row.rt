@@ -29,16 +29,16 @@ pub fn parts_of(c: Calendar) -> Parts
     ensures { result ≡ parts_of (counts c) }
 {
     match c {
-        Calendar::Standard(_) => return Parts {
+        Calendar::Standard(_) => Parts {
             zero: false,
             early: Rule::Julian,
             late: Rule::Gregorian,
         },
-        Calendar::ProlepticGregorian => return same_parts(true, Rule::Gregorian),
-        Calendar::Julian => return same_parts(false, Rule::Julian),
-        Calendar::NoLeap => return same_parts(true, Rule::Common),
-        Calendar::AllLeap => return same_parts(true, Rule::Leap),
-        Calendar::Day360 => return same_parts(true, Rule::Thirty),
+        Calendar::ProlepticGregorian => same_parts(true, Rule::Gregorian),
+        Calendar::Julian => same_parts(false, Rule::Julian),
+        Calendar::NoLeap => same_parts(true, Rule::Common),
+        Calendar::AllLeap => same_parts(true, Rule::Leap),
+        Calendar::Day360 => same_parts(true, Rule::Thirty),
     }
 }
 
@@ -48,9 +48,9 @@ pub fn from_of(c: Calendar) -> Place
 {
     match c {
         Calendar::Standard(k) => {
-            return place::place_of(Rule::Gregorian, cutover::FIRST + cutover::days_used(k));
+            place::place_of(Rule::Gregorian, cutover::FIRST + cutover::days_used(k))
         }
-        _ => return Place {
+        _ => Place {
             y: 11582,
             m: 9,
             i: 14,
@@ -62,10 +62,7 @@ pub fn from_of(c: Calendar) -> Place
 fn is_mixed(c: Calendar) -> bool
     ensures { result ≡ mixed (counts c) }
 {
-    match c {
-        Calendar::Standard(_) => return true,
-        _ => return false,
-    }
+    matches!(c, Calendar::Standard(_))
 }
 
 // The days by which the late rule lags behind the early one.
@@ -73,9 +70,10 @@ pub fn lag_of(c: Calendar) -> u64
     ensures { result ≡ lag (counts c) }
 {
     if is_mixed(c) {
-        return cutover::LAST_KEPT + 1 - cutover::FIRST;
+        cutover::LAST_KEPT + 1 - cutover::FIRST
+    } else {
+        0
     }
-    return 0;
 }
 
 // The rule of the early or of the late part.
@@ -83,10 +81,7 @@ pub fn rule_of(c: Calendar, early: bool) -> Rule
     ensures { result ≡ cond early (counts c).early (counts c).late }
 {
     let r = parts_of(c);
-    if early {
-        return r.early;
-    }
-    return r.late;
+    if early { r.early } else { r.late }
 }
 
 // Whether day n, by the late rule, comes before the late part; a calendar that is not mixed is all late. Only after the first cutover, and
@@ -96,14 +91,8 @@ pub fn is_early_day(c: Calendar, n: u64) -> bool
 {
     match c {
         Calendar::Standard(k) => {
-            if n < cutover::FIRST {
-                return true;
-            }
-            if cutover::FIRST + k as u64 <= n {
-                return false;
-            }
-            return cutover::is_allowed(k);
+            n < cutover::FIRST || (n < cutover::FIRST + k as u64 && cutover::is_allowed(k))
         }
-        _ => return false,
+        _ => false,
     }
 }

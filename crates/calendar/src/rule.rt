@@ -1,5 +1,6 @@
 // The five rules of years under the six calendars, over years counted from -10000: 10000 is a multiple of 400, so a year's number
-// leaves the same remainders as its count.
+// leaves the same remainders as its count. Bounds of years, days and months stay clauses in this crate: each is of one number, and a type for
+// each would be no plainer.
 ghost use Rattle.std.specs.Prelude.{◌≡◌, ◌<◌, ◌^◌};
 ghost use Rattle.calendar.specs.Closed.{kind_at, year_start, julian_count, year_day};
 

@@ -1,11 +1,11 @@
 -- Calendar names: document 01, "Calendars". A name is taken in the case in which it is listed.
-use Rattle.std.specs.Prelude.{ℕ, List, [], ◌∷◌}
-use Rattle.std.proofs.Math.Option.{Option, none, some}
+use Rattle.std.specs.Prelude.{ℕ, List, [], ◌∷◌, Option as Answer}
+use Rattle.std.proofs.Math.Option.{Option, some}
+use Rattle.grammar.specs.Answers.{answer}
 use Rattle.grammar.specs.Rules.{bytes}
 use Rattle.word_table.specs.Table.{Row, row, lookup}
 use Rattle.calendar.specs.declared.Calendar.{Calendar}
 use Rattle.calendar.specs.declared.Calendar.TheVariants.{Standard, ProlepticGregorian, Julian, NoLeap, AllLeap, Day360}
-use Rattle.calendar_name.specs.declared.CalendarNamed.{CalendarNamed}
 
 abbrev pub calendar_names : List (Row Calendar)
 calendar_names =
@@ -22,6 +22,5 @@ unfoldable pub calendar_of : List ℕ → Option Calendar
 calendar_of [] = some (Standard 0)
 calendar_of (b ∷ s) = lookup calendar_names (b ∷ s)
 
-abbrev pub calendar_named : Option Calendar → CalendarNamed
-calendar_named none = CalendarNamed.Unknown
-calendar_named (some c) = CalendarNamed.Is c
+abbrev pub calendar_named : Option Calendar → Answer Calendar
+calendar_named o = answer o

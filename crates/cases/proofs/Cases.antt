@@ -2,12 +2,12 @@
 -- the list are computed.
 use mathlib.Core.Path.{◌≡◌, refl, ◌∙◌}
 use mathlib.Core.List.{map}
-use Rattle.cases.specs.Cases.{Case, answer_of, cases}
-use Rattle.cases.proofs.Answers.{answer_of_known}
+use Rattle.cases.specs.Cases.{Case, case_answer, cases}
+use Rattle.cases.proofs.Answers.{case_answer_known}
 
-computed : map (λ (k : Case). (answer_of_known k).value) cases ≡ map (λ (k : Case). k.expected) cases
-unfolding answer_of_known
+computed : map (λ (k : Case). (case_answer_known k).value) cases ≡ map (λ (k : Case). k.expected) cases
+unfolding case_answer_known
 computed = refl
 
-pub cases_hold : map answer_of cases ≡ map (λ (k : Case). k.expected) cases
-cases_hold = (λ i. map (λ (k : Case). (answer_of_known k).is i) cases) ∙ computed
+pub cases_hold : map case_answer cases ≡ map (λ (k : Case). k.expected) cases
+cases_hold = (λ i. map (λ (k : Case). (case_answer_known k).is i) cases) ∙ computed

@@ -1,4 +1,5 @@
 -- The date of a day number and the day number of a date, each found by the closed forms of crate `calendar`.
+use Rattle.std.specs.Prelude.{Ok, Err}
 use mathlib.Core.Path.{◌≡◌, refl, sym, ap, ◌∙◌}
 use mathlib.Core.Bool.{Bool, true, false, ◌&&◌}
 use Prim.Native.Nat.{ℕ, ◌+◌, ◌-◌}
@@ -17,8 +18,6 @@ use Rattle.calendar.specs.Answers.{date_answer, fault_with, refusal_with, day_wi
 use Rattle.calendar.specs.Closed.{before_place, count, counts, cutover_day, day_place, epoch_day, kind_at, label, lag, lag_at, month_start, row_end, row_epoch, row_start, rule_at, year_at, year_start}
 use Rattle.calendar.specs.declared.Calendar.{Calendar}
 use Rattle.calendar.specs.declared.Date.{Date}
-use Rattle.calendar.specs.declared.DateAnswer.{DateAnswer}
-use Rattle.calendar.specs.declared.DayAnswer.{DayAnswer}
 use Rattle.calendar.proofs.Existing.{date_eq, valid_of, valid_year}
 use Rattle.calendar.proofs.Labels.{by_year}
 use Rattle.calendar.proofs.Range.{high_day, inside_of, low_day}
@@ -51,7 +50,7 @@ module _ (c : Calendar) where
   -- the date of a day number, or its refusal
   unfoldable pub date_answer_known : (z : ℤ) → Known (date_answer c z)
   unfolding date_answer in_years_known date_of_known
-  date_answer_known z = chosen (in_years_known z) (λ h. applied DateAnswer.Is (date_of_known z h)) (DateAnswer.Refused OutOfRange)
+  date_answer_known z = chosen (in_years_known z) (λ h. applied Ok (date_of_known z h)) (Err OutOfRange)
 
 -- ---- the day number of a date
 
@@ -83,5 +82,5 @@ module _ (c : Calendar) (x : Date) where
   unfolding cutover_after last_kept_after times day_with refusal_with fault_with exists exists_by dropped dropped_by earlier has_day kind month_days day_number_known
   day_with_known rest =
       chosen (itself (rest && (in_years x.year && exists c x)))
-      (λ h. let w = and_parts (in_years x.year) (exists c x) (and_parts rest (in_years x.year && exists c x) h).1 in applied DayAnswer.Is (day_number_known w.0 w.1))
-      (DayAnswer.Refused (refusal_with rest c x))
+      (λ h. let w = and_parts (in_years x.year) (exists c x) (and_parts rest (in_years x.year && exists c x) h).1 in applied Ok (day_number_known w.0 w.1))
+      (Err (refusal_with rest c x))

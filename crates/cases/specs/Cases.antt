@@ -1,19 +1,20 @@
 -- The cases of document 01, "Cases by hand", that it marks for proof, row by row: one list, and proofs/Cases.antt has one proof of it.
-use Rattle.std.specs.Prelude.{Bool, true, false, List, [], ◌∷◌, ℕ, pos, negsuc, Float}
+use Rattle.std.specs.Prelude.{Bool, true, false, List, [], ◌∷◌, ℕ, pos, negsuc, Float, Result, Ok, Err}
 use Prim.Native.String.{String}
 use Rattle.std.specs.Float.{fin}
 use Rattle.refusal.specs.Number.{number_of}
 use Rattle.calendar.specs.declared.Calendar.{Calendar}
 use Rattle.calendar.specs.Cutover.{first_cutover}
 use Rattle.instant.specs.Instant.{fields_answer}
-use Rattle.instant.specs.declared.FieldsAnswer.{FieldsAnswer}
-use Rattle.axis_types.specs.declared.Reading.{Reading}
 use Rattle.axis.specs.Axis.{read_offset}
 use Rattle.axis_types.specs.declared.Offset.{Offset}
 use Rattle.axis_text.specs.Units.{read_units}
-use Rattle.axis_text.specs.declared.AxisAnswer.{AxisAnswer}
 use Rattle.iso_text.specs.Iso.{text_of}
 use Rattle.grammar.specs.Rules.{bytes}
+use Rattle.axis_types.specs.Reading.{Reading}
+use Rattle.axis_types.specs.declared.Axis.{Axis}
+use Rattle.instant.specs.declared.Fields.{Fields}
+use Rattle.refusal.specs.declared.Refusal.{Refusal}
 
 -- ---- what an offset reads as, by the definitions of the calls
 
@@ -22,19 +23,19 @@ pub data Answer : Type 0 where
   text : List ℕ → Bool → Answer
   refused : ℕ → Answer
 
-abbrev pub text_answer : FieldsAnswer → Bool → Answer
-text_answer (FieldsAnswer.Is f) exact = text (text_of f) exact
-text_answer (FieldsAnswer.Refused r) exact = refused (number_of r)
+abbrev pub text_answer : Result Fields Refusal → Bool → Answer
+text_answer (Ok f) exact = text (text_of f) exact
+text_answer (Err r) exact = refused (number_of r)
 
 -- the text of an instant that was read
 abbrev pub reading_answer : Calendar → Reading → Answer
-reading_answer c (Reading.At t exact) = text_answer (fields_answer c t) exact
-reading_answer c (Reading.Refused r) = refused (number_of r)
+reading_answer c (Ok (t, exact)) = text_answer (fields_answer c t) exact
+reading_answer c (Err r) = refused (number_of r)
 
 -- an offset on the axis that was read
-abbrev pub axis_answer : AxisAnswer → Offset → Answer
-axis_answer (AxisAnswer.Is a) o = reading_answer a.calendar (read_offset a o)
-axis_answer (AxisAnswer.Refused r) o = refused (number_of r)
+abbrev pub axis_answer : Result Axis Refusal → Offset → Answer
+axis_answer (Ok a) o = reading_answer a.calendar (read_offset a o)
+axis_answer (Err r) o = refused (number_of r)
 
 -- ---- the cases
 
@@ -46,8 +47,8 @@ pub record Case : Type 0 where
   pub expected : Answer
 
 -- the units text makes an axis in the calendar, with the cutover of 1582, the offset is read on it, and the fields of the instant are written
-unfoldable pub answer_of : Case → Answer
-answer_of k = axis_answer (read_units k.calendar first_cutover k.units) k.offset
+unfoldable pub case_answer : Case → Answer
+case_answer k = axis_answer (read_units k.calendar first_cutover k.units) k.offset
 
 -- a row with a whole offset, which is exact
 abbrev pub whole_case : String → String → ℕ → String → Case

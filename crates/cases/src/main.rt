@@ -4,29 +4,16 @@
 // (specs/Cases.antt).
 #![tactic(auto)]
 
-use axis_text::AxisAnswer;
-use axis_types::{Axis, Offset, OffsetAnswer, Reading};
+use axis_types::{Axis, Offset, OffsetReading};
 use calendar::{Calendar, Date};
-use instant::InstantAnswer;
-use iso_form::LengthAnswer;
 use refusal::Refusal;
 use std::io;
-
-const ZERO: u64 = 0x8000_0000_0000_0000;
 
 // ---- parts of a line
 
 fn print_part(to: &impl Print, text: &[u8]) -> io::Result<()> {
     to.write_all(text)?;
     to.write_all(b" | ")
-}
-
-fn print_signed(to: &impl Print, n: i64) -> io::Result<()> {
-    let k = signed::biased(n);
-    if k < ZERO {
-        return print!(to; "-{}", ZERO - k);
-    }
-    print!(to; "{}", k - ZERO)
 }
 
 fn print_refusal(to: &impl Print, r: Refusal) -> io::Result<()> {
@@ -47,23 +34,16 @@ fn print_days_back(to: &impl Print, days: u32) -> io::Result<()> {
     print!(to; ", days back: {days}")
 }
 
-fn print_instant(
-    to: &impl Print,
-    c: Calendar,
-    t: i64,
-    exact: bool,
-    days_back: u32,
-) -> io::Result<()> {
+fn print_instant(to: &impl Print, c: Calendar, reading: OffsetReading) -> io::Result<()> {
     let mut room = [0u8; 28];
-    match iso_text::write_iso(c, t, &mut room) {
-        LengthAnswer::Refused(r) => print_refusal(to, r),
-        LengthAnswer::Is(n) => {
+    match iso_text::write_iso(c, reading.instant, &mut room) {
+        Err(r) => print_refusal(to, r),
+        Ok(n) => {
             if n <= room.len() {
-                let start: usize = 0;
-                to.write_all(&room[start..n])?;
+                to.write_all(&room[..n])?;
             }
-            print_mark(to, exact)?;
-            print_days_back(to, days_back)?;
+            print_mark(to, reading.exact)?;
+            print_days_back(to, reading.days_back)?;
             to.write_all(b"\n")
         }
     }
@@ -73,11 +53,9 @@ fn print_instant(
 
 fn print_reading(to: &impl Print, axis: Axis, offset: Offset) -> io::Result<()> {
     let c = axis.calendar;
-    let one = axis::read(axis, offset);
-    let reading = one.reading;
-    match reading {
-        Reading::Refused(r) => print_refusal(to, r),
-        Reading::At(t, exact) => print_instant(to, c, t, exact, one.days_back),
+    match axis::read(axis, offset) {
+        Err(r) => print_refusal(to, r),
+        Ok(reading) => print_instant(to, c, reading),
     }
 }
 
@@ -89,15 +67,14 @@ fn print_read(
     offset: Offset,
 ) -> io::Result<()> {
     match axis_text::read_units(name, x, units) {
-        AxisAnswer::Refused(r) => print_refusal(to, r),
-        AxisAnswer::Is(axis) => print_reading(to, axis, offset),
+        Err(r) => print_refusal(to, r),
+        Ok(axis) => print_reading(to, axis, offset),
     }
 }
 
 fn read_whole_with(to: &impl Print, name: &[u8], x: Date, units: &[u8], n: i64) -> io::Result<()> {
     print_part(to, units)?;
-    print_signed(to, n)?;
-    to.write_all(b" | ")?;
+    print!(to; "{n} | ")?;
     print_read(to, name, x, units, Offset::Whole(n))
 }
 
@@ -124,11 +101,8 @@ fn read_double(to: &impl Print, name: &[u8], units: &[u8], a: u32, b: u32) -> io
 
 fn print_written(to: &impl Print, axis: Axis, t: i64) -> io::Result<()> {
     match axis::write_instant(axis, t) {
-        OffsetAnswer::Refused(r) => print_refusal(to, r),
-        OffsetAnswer::Is(n) => {
-            print_signed(to, n)?;
-            to.write_all(b"\n")
-        }
+        Err(r) => print_refusal(to, r),
+        Ok(n) => println!(to; "{n}"),
     }
 }
 
@@ -140,8 +114,8 @@ fn print_written_date(
     date: &[u8],
 ) -> io::Result<()> {
     match iso_text::read_iso(name, x, date) {
-        InstantAnswer::Refused(r) => print_refusal(to, r),
-        InstantAnswer::Is(t) => print_written(to, axis, t),
+        Err(r) => print_refusal(to, r),
+        Ok(t) => print_written(to, axis, t),
     }
 }
 
@@ -155,8 +129,8 @@ fn write_date_with(
     print_part(to, units)?;
     print_part(to, date)?;
     match axis_text::read_units(name, x, units) {
-        AxisAnswer::Refused(r) => print_refusal(to, r),
-        AxisAnswer::Is(axis) => print_written_date(to, axis, name, x, date),
+        Err(r) => print_refusal(to, r),
+        Ok(axis) => print_written_date(to, axis, name, x, date),
     }
 }
 

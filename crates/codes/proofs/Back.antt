@@ -1,5 +1,6 @@
 -- Codes and what they name belong to each other: the codes of an axis, with a cutover that its calendar carries, name it, and what codes name with
 -- a cutover has these codes and carries it.
+use Rattle.std.specs.Prelude.{Result, Ok, Err, Option, Some, None}
 use mathlib.Core.Path.{◌≡◌, refl, sym, ap, subst, ◌∙◌}
 use Prim.Native.Nat.{ℕ, zero, suc}
 use native.Mathlib.Omega.{arith}
@@ -7,7 +8,6 @@ use Rattle.calendar.specs.declared.Calendar.{Calendar}
 use Rattle.calendar.specs.declared.Calendar.TheVariants.{Standard, ProlepticGregorian, Julian, NoLeap, AllLeap, Day360}
 use Rattle.calendar.specs.declared.Date.{Date}
 use Rattle.cutover.specs.Calendars.{with_cutover, Carries}
-use Rattle.cutover.specs.declared.CalendarAnswer.{CalendarAnswer}
 use Rattle.calendar.specs.Cutover.{cutover_days}
 use Rattle.cutover.proofs.Theorems.{StandardWith, with_allowed, not_allowed, standard_with_lem, carried}
 use Rattle.axis_types.specs.declared.Period.{Period}
@@ -15,11 +15,8 @@ use Rattle.axis_types.specs.declared.Period.TheVariants.{Second, Millisecond, Mi
 use Rattle.axis_types.specs.declared.Mode.{Mode}
 use Rattle.axis_types.specs.declared.Axis.{Axis}
 use Rattle.codes.specs.Codes.{coded_calendar, calendar_with, calendar_given, coded_period, coded_mode, axis_in, axis_with, coded_axis, calendar_code, period_code, mode_code, axis_code}
-use Rattle.codes.specs.declared.CodedCalendar.{CodedCalendar}
-use Rattle.codes.specs.declared.CodedPeriod.{CodedPeriod}
-use Rattle.codes.specs.declared.CodedMode.{CodedMode}
-use Rattle.codes.specs.declared.CodedAxis.{CodedAxis}
 use Rattle.codes.specs.declared.UppinaloAxis.{UppinaloAxis}
+use Rattle.refusal.specs.declared.Refusal.{Refusal}
 
 -- ---- the codes of an axis name it
 
@@ -33,10 +30,10 @@ given_as_carried NoLeap x = refl
 given_as_carried AllLeap x = refl
 given_as_carried Day360 x = refl
 
-pub calendar_back : (c : Calendar) (x : Date) → Carries c x → calendar_given (calendar_code c) x ≡ CalendarAnswer.Is c
+pub calendar_back : (c : Calendar) (x : Date) → Carries c x → calendar_given (calendar_code c) x ≡ Ok c
 calendar_back c x h = given_as_carried c x ∙ h
 
-in_calendar_lem : (c : Calendar) (p : Period) (m : Mode) (a : UppinaloAxis) → axis_with (coded_calendar (calendar_code c)) (CodedPeriod.Is p) (CodedMode.Is m) a ≡ axis_in (calendar_given (calendar_code c) a.cutover) p m a
+in_calendar_lem : (c : Calendar) (p : Period) (m : Mode) (a : UppinaloAxis) → axis_with (coded_calendar (calendar_code c)) (Some p) (Some m) a ≡ axis_in (calendar_given (calendar_code c) a.cutover) p m a
 in_calendar_lem (Standard k) p m a = refl
 in_calendar_lem ProlepticGregorian p m a = refl
 in_calendar_lem Julian p m a = refl
@@ -44,7 +41,7 @@ in_calendar_lem NoLeap p m a = refl
 in_calendar_lem AllLeap p m a = refl
 in_calendar_lem Day360 p m a = refl
 
-period_back : (p : Period) → coded_period (period_code p) ≡ CodedPeriod.Is p
+period_back : (p : Period) → coded_period (period_code p) ≡ Some p
 period_back Second = refl
 period_back Millisecond = refl
 period_back Minute = refl
@@ -54,24 +51,24 @@ period_back Week = refl
 period_back Month = refl
 period_back Year = refl
 
-mode_back : (m : Mode) → coded_mode (mode_code m) ≡ CodedMode.Is m
+mode_back : (m : Mode) → coded_mode (mode_code m) ≡ Some m
 mode_back Mode.Fixed = refl
 mode_back Mode.Calendar = refl
 
-pub axis_back : (a : Axis) (x : Date) → Carries a.calendar x → coded_axis (axis_code a x) ≡ CodedAxis.Is a
+pub axis_back : (a : Axis) (x : Date) → Carries a.calendar x → coded_axis (axis_code a x) ≡ Ok a
 unfolding coded_axis
 axis_back a x h =
     (λ i. axis_with (coded_calendar (calendar_code a.calendar)) (period_back a.period i) (mode_back a.mode i) (axis_code a x))
-    ∙ (in_calendar_lem a.calendar a.period a.mode (axis_code a x) ∙ ap (λ (k : CalendarAnswer). axis_in k a.period a.mode (axis_code a x)) (calendar_back a.calendar x h))
+    ∙ (in_calendar_lem a.calendar a.period a.mode (axis_code a x) ∙ ap (λ (k : Result Calendar Refusal). axis_in k a.period a.mode (axis_code a x)) (calendar_back a.calendar x h))
 
 -- ---- what codes name has these codes
 
 -- a cutover does not change which calendar it is
-same_code : (d c : Calendar) (x : Date) → with_cutover d x ≡ CalendarAnswer.Is c → calendar_code c ≡ calendar_code d
+same_code : (d c : Calendar) (x : Date) → with_cutover d x ≡ Ok c → calendar_code c ≡ calendar_code d
 unfolding with_cutover
 same_code (Standard k) c x = go (standard_with_lem x)
   where
-    go : {a : CalendarAnswer} → StandardWith x a → a ≡ CalendarAnswer.Is c → calendar_code c ≡ 0
+    go : {a : Result Calendar Refusal} → StandardWith x a → a ≡ Ok c → calendar_code c ≡ 0
     go (with_allowed h) e = let f : Standard (cutover_days x) ≡ c = cc in ap calendar_code (sym f)
     go (not_allowed h) e = absurd (let z : ◌≡◌ {A = ℕ} 0 1 = cc in omega arith)
 same_code ProlepticGregorian c x = λ e. let f : ProlepticGregorian ≡ c = cc in ap calendar_code (sym f)
@@ -80,13 +77,13 @@ same_code NoLeap c x = λ e. let f : NoLeap ≡ c = cc in ap calendar_code (sym 
 same_code AllLeap c x = λ e. let f : AllLeap ≡ c = cc in ap calendar_code (sym f)
 same_code Day360 c x = λ e. let f : Day360 ≡ c = cc in ap calendar_code (sym f)
 
-code_known : (n : ℕ) (c : Calendar) → coded_calendar n ≡ CodedCalendar.Is c → calendar_code c ≡ n
+code_known : (n : ℕ) (c : Calendar) → coded_calendar n ≡ Some c → calendar_code c ≡ n
 code_known n c e = go n e
   where
-    of : (b : Calendar) → CodedCalendar.Is b ≡ CodedCalendar.Is c → calendar_code c ≡ calendar_code b
+    of : (b : Calendar) → Some b ≡ Some c → calendar_code c ≡ calendar_code b
     of b h = let k : b ≡ c = cc in ap calendar_code (sym k)
 
-    go : (k : ℕ) → coded_calendar k ≡ CodedCalendar.Is c → calendar_code c ≡ k
+    go : (k : ℕ) → coded_calendar k ≡ Some c → calendar_code c ≡ k
     go zero h = of (Standard 0) h
     go (suc zero) h = of ProlepticGregorian h
     go (suc (suc zero)) h = of Julian h
@@ -100,23 +97,23 @@ pub record Known (n : ℕ) (x : Date) (c : Calendar) : Type 0 where
   pub code : calendar_code c ≡ n
   pub carries : Carries c x
 
-with_known : (n : ℕ) (x : Date) (d c : Calendar) → coded_calendar n ≡ CodedCalendar.Is d → with_cutover d x ≡ CalendarAnswer.Is c → Known n x c
+with_known : (n : ℕ) (x : Date) (d c : Calendar) → coded_calendar n ≡ Some d → with_cutover d x ≡ Ok c → Known n x c
 with_known n x d c e f = record { code = same_code d c x f ∙ code_known n d e; carries = carried d c x f }
 
-pub calendar_known : (n : ℕ) (x : Date) (c : Calendar) → calendar_given n x ≡ CalendarAnswer.Is c → Known n x c
+pub calendar_known : (n : ℕ) (x : Date) (c : Calendar) → calendar_given n x ≡ Ok c → Known n x c
 calendar_known n x c = go (coded_calendar n) refl
   where
-    go : (k : CodedCalendar) → coded_calendar n ≡ k → calendar_with k x ≡ CalendarAnswer.Is c → Known n x c
-    go (CodedCalendar.Is d) e f = with_known n x d c e f
-    go CodedCalendar.Unknown e f = absurd (let z : ◌≡◌ {A = ℕ} 0 1 = cc in omega arith)
+    go : (k : Option Calendar) → coded_calendar n ≡ k → calendar_with k x ≡ Ok c → Known n x c
+    go (Some d) e f = with_known n x d c e f
+    go None e f = absurd (let z : ◌≡◌ {A = ℕ} 0 1 = cc in omega arith)
 
-period_known : (n : ℕ) (p : Period) → coded_period n ≡ CodedPeriod.Is p → period_code p ≡ n
+period_known : (n : ℕ) (p : Period) → coded_period n ≡ Some p → period_code p ≡ n
 period_known n p e = go n e
   where
-    of : (b : Period) → CodedPeriod.Is b ≡ CodedPeriod.Is p → period_code p ≡ period_code b
+    of : (b : Period) → Some b ≡ Some p → period_code p ≡ period_code b
     of b h = let k : b ≡ p = cc in ap period_code (sym k)
 
-    go : (k : ℕ) → coded_period k ≡ CodedPeriod.Is p → period_code p ≡ k
+    go : (k : ℕ) → coded_period k ≡ Some p → period_code p ≡ k
     go zero h = of Second h
     go (suc zero) h = of Millisecond h
     go (suc (suc zero)) h = of Minute h
@@ -127,22 +124,22 @@ period_known n p e = go n e
     go (suc (suc (suc (suc (suc (suc (suc zero))))))) h = of Year h
     go (suc (suc (suc (suc (suc (suc (suc (suc k)))))))) h = absurd (let z : ◌≡◌ {A = ℕ} 0 1 = cc in omega arith)
 
-mode_known : (n : ℕ) (m : Mode) → coded_mode n ≡ CodedMode.Is m → mode_code m ≡ n
+mode_known : (n : ℕ) (m : Mode) → coded_mode n ≡ Some m → mode_code m ≡ n
 mode_known n m e = go n e
   where
-    of : (b : Mode) → CodedMode.Is b ≡ CodedMode.Is m → mode_code m ≡ mode_code b
+    of : (b : Mode) → Some b ≡ Some m → mode_code m ≡ mode_code b
     of b h = let k : b ≡ m = cc in ap mode_code (sym k)
 
-    go : (k : ℕ) → coded_mode k ≡ CodedMode.Is m → mode_code m ≡ k
+    go : (k : ℕ) → coded_mode k ≡ Some m → mode_code m ≡ k
     go zero h = of Mode.Fixed h
     go (suc zero) h = of Mode.Calendar h
     go (suc (suc k)) h = absurd (let z : ◌≡◌ {A = ℕ} 0 1 = cc in omega arith)
 
-pub axis_known : (a : UppinaloAxis) (x : Axis) → coded_axis a ≡ CodedAxis.Is x → (axis_code x a.cutover ≡ a) × Carries x.calendar a.cutover
+pub axis_known : (a : UppinaloAxis) (x : Axis) → coded_axis a ≡ Ok x → (axis_code x a.cutover ≡ a) × Carries x.calendar a.cutover
 unfolding coded_axis
 axis_known a x e = go (coded_calendar a.calendar) (coded_period a.period) (coded_mode a.mode) refl refl refl e
   where
-    named : (c : Calendar) (p : Period) (m : Mode) → Known a.calendar a.cutover c → coded_period a.period ≡ CodedPeriod.Is p → coded_mode a.mode ≡ CodedMode.Is m → record { calendar = c; period = p; mode = m; reference = a.reference } ≡ x
+    named : (c : Calendar) (p : Period) (m : Mode) → Known a.calendar a.cutover c → coded_period a.period ≡ Some p → coded_mode a.mode ≡ Some m → record { calendar = c; period = p; mode = m; reference = a.reference } ≡ x
         → (axis_code x a.cutover ≡ a) × Carries x.calendar a.cutover
     named c p m k g h is = (
       ap (λ (y : Axis). axis_code y a.cutover) (sym is)
@@ -150,13 +147,13 @@ axis_known a x e = go (coded_calendar a.calendar) (coded_period a.period) (coded
       subst (λ (y : Axis). Carries y.calendar a.cutover) is k.carries,
     )
 
-    cut : (d : Calendar) (p : Period) (m : Mode) → coded_calendar a.calendar ≡ CodedCalendar.Is d → coded_period a.period ≡ CodedPeriod.Is p → coded_mode a.mode ≡ CodedMode.Is m → (q : CalendarAnswer) → with_cutover d a.cutover ≡ q → axis_in q p m a ≡ CodedAxis.Is x
+    cut : (d : Calendar) (p : Period) (m : Mode) → coded_calendar a.calendar ≡ Some d → coded_period a.period ≡ Some p → coded_mode a.mode ≡ Some m → (q : Result Calendar Refusal) → with_cutover d a.cutover ≡ q → axis_in q p m a ≡ Ok x
         → (axis_code x a.cutover ≡ a) × Carries x.calendar a.cutover
-    cut d p m f g h (CalendarAnswer.Is c) q k = named c p m (with_known a.calendar a.cutover d c f q) g h (let is : record { calendar = c; period = p; mode = m; reference = a.reference } ≡ x = cc in is)
-    cut d p m f g h (CalendarAnswer.Refused r) q k = absurd (let z : ◌≡◌ {A = ℕ} 0 1 = cc in omega arith)
+    cut d p m f g h (Ok c) q k = named c p m (with_known a.calendar a.cutover d c f q) g h (let is : record { calendar = c; period = p; mode = m; reference = a.reference } ≡ x = cc in is)
+    cut d p m f g h (Err r) q k = absurd (let z : ◌≡◌ {A = ℕ} 0 1 = cc in omega arith)
 
-    go : (c : CodedCalendar) (p : CodedPeriod) (m : CodedMode) → coded_calendar a.calendar ≡ c → coded_period a.period ≡ p → coded_mode a.mode ≡ m → axis_with c p m a ≡ CodedAxis.Is x → (axis_code x a.cutover ≡ a) × Carries x.calendar a.cutover
-    go CodedCalendar.Unknown p m f g h k = absurd (let z : ◌≡◌ {A = ℕ} 0 1 = cc in omega arith)
-    go (CodedCalendar.Is d) CodedPeriod.Unknown m f g h k = absurd (let z : ◌≡◌ {A = ℕ} 0 1 = cc in omega arith)
-    go (CodedCalendar.Is d) (CodedPeriod.Is p) CodedMode.Unknown f g h k = absurd (let z : ◌≡◌ {A = ℕ} 0 1 = cc in omega arith)
-    go (CodedCalendar.Is d) (CodedPeriod.Is p) (CodedMode.Is m) f g h k = cut d p m f g h (with_cutover d a.cutover) refl k
+    go : (c : Option Calendar) (p : Option Period) (m : Option Mode) → coded_calendar a.calendar ≡ c → coded_period a.period ≡ p → coded_mode a.mode ≡ m → axis_with c p m a ≡ Ok x → (axis_code x a.cutover ≡ a) × Carries x.calendar a.cutover
+    go None p m f g h k = absurd (let z : ◌≡◌ {A = ℕ} 0 1 = cc in omega arith)
+    go (Some d) None m f g h k = absurd (let z : ◌≡◌ {A = ℕ} 0 1 = cc in omega arith)
+    go (Some d) (Some p) None f g h k = absurd (let z : ◌≡◌ {A = ℕ} 0 1 = cc in omega arith)
+    go (Some d) (Some p) (Some m) f g h k = cut d p m f g h (with_cutover d a.cutover) refl k

@@ -1,72 +1,68 @@
 -- The numbers by which calendars, periods and modes cross the C boundary, beside the cutover, which crosses as a date.
-use Rattle.std.specs.Prelude.{ℕ, zero, suc}
+use Rattle.std.specs.Prelude.{ℕ, zero, suc, Result, Ok, Err, Option, Some, None}
 use Rattle.refusal.specs.declared.Refusal.TheVariants.{UnknownCalendar, IllFormed}
 use Rattle.calendar.specs.declared.Calendar.{Calendar}
 use Rattle.calendar.specs.declared.Calendar.TheVariants.{Standard, ProlepticGregorian, Julian, NoLeap, AllLeap, Day360}
 use Rattle.calendar.specs.declared.Date.{Date}
 use Rattle.cutover.specs.Calendars.{with_cutover}
-use Rattle.cutover.specs.declared.CalendarAnswer.{CalendarAnswer}
 use Rattle.axis_types.specs.declared.Period.{Period}
 use Rattle.axis_types.specs.declared.Period.TheVariants.{Second, Millisecond, Minute, Hour, Day, Week, Month, Year}
 use Rattle.axis_types.specs.declared.Mode.{Mode}
 use Rattle.axis_types.specs.declared.Axis.{Axis}
-use Rattle.codes.specs.declared.CodedCalendar.{CodedCalendar}
-use Rattle.codes.specs.declared.CodedPeriod.{CodedPeriod}
-use Rattle.codes.specs.declared.CodedMode.{CodedMode}
-use Rattle.codes.specs.declared.CodedAxis.{CodedAxis}
 use Rattle.codes.specs.declared.UppinaloAxis.{UppinaloAxis}
+use Rattle.refusal.specs.declared.Refusal.{Refusal}
 
 -- ---- what a code names
 
 -- 0 standard, here with the cutover of 1582, 1 proleptic_gregorian, 2 julian, 3 noleap, 4 all_leap, 5 360_day, and no other
-abbrev pub coded_calendar : ℕ → CodedCalendar
-coded_calendar zero = CodedCalendar.Is (Standard 0)
-coded_calendar (suc zero) = CodedCalendar.Is ProlepticGregorian
-coded_calendar (suc (suc zero)) = CodedCalendar.Is Julian
-coded_calendar (suc (suc (suc zero))) = CodedCalendar.Is NoLeap
-coded_calendar (suc (suc (suc (suc zero)))) = CodedCalendar.Is AllLeap
-coded_calendar (suc (suc (suc (suc (suc zero))))) = CodedCalendar.Is Day360
-coded_calendar (suc (suc (suc (suc (suc (suc n)))))) = CodedCalendar.Unknown
+abbrev pub coded_calendar : ℕ → Option Calendar
+coded_calendar zero = Some (Standard 0)
+coded_calendar (suc zero) = Some ProlepticGregorian
+coded_calendar (suc (suc zero)) = Some Julian
+coded_calendar (suc (suc (suc zero))) = Some NoLeap
+coded_calendar (suc (suc (suc (suc zero)))) = Some AllLeap
+coded_calendar (suc (suc (suc (suc (suc zero))))) = Some Day360
+coded_calendar (suc (suc (suc (suc (suc (suc n)))))) = None
 
 -- the calendar that a code names, with the cutover x: refused for the code (2), then for the cutover (16)
-abbrev pub calendar_with : CodedCalendar → Date → CalendarAnswer
-calendar_with (CodedCalendar.Is c) x = with_cutover c x
-calendar_with CodedCalendar.Unknown x = CalendarAnswer.Refused UnknownCalendar
+abbrev pub calendar_with : Option Calendar → Date → Result Calendar Refusal
+calendar_with (Some c) x = with_cutover c x
+calendar_with None x = Err UnknownCalendar
 
-abbrev pub calendar_given : ℕ → Date → CalendarAnswer
+abbrev pub calendar_given : ℕ → Date → Result Calendar Refusal
 calendar_given code x = calendar_with (coded_calendar code) x
 
 -- 0 second, 1 millisecond, 2 minute, 3 hour, 4 day, 5 week, 6 month, 7 year, and no other
-abbrev pub coded_period : ℕ → CodedPeriod
-coded_period zero = CodedPeriod.Is Second
-coded_period (suc zero) = CodedPeriod.Is Millisecond
-coded_period (suc (suc zero)) = CodedPeriod.Is Minute
-coded_period (suc (suc (suc zero))) = CodedPeriod.Is Hour
-coded_period (suc (suc (suc (suc zero)))) = CodedPeriod.Is Day
-coded_period (suc (suc (suc (suc (suc zero))))) = CodedPeriod.Is Week
-coded_period (suc (suc (suc (suc (suc (suc zero)))))) = CodedPeriod.Is Month
-coded_period (suc (suc (suc (suc (suc (suc (suc zero))))))) = CodedPeriod.Is Year
-coded_period (suc (suc (suc (suc (suc (suc (suc (suc n)))))))) = CodedPeriod.Unknown
+abbrev pub coded_period : ℕ → Option Period
+coded_period zero = Some Second
+coded_period (suc zero) = Some Millisecond
+coded_period (suc (suc zero)) = Some Minute
+coded_period (suc (suc (suc zero))) = Some Hour
+coded_period (suc (suc (suc (suc zero)))) = Some Day
+coded_period (suc (suc (suc (suc (suc zero))))) = Some Week
+coded_period (suc (suc (suc (suc (suc (suc zero)))))) = Some Month
+coded_period (suc (suc (suc (suc (suc (suc (suc zero))))))) = Some Year
+coded_period (suc (suc (suc (suc (suc (suc (suc (suc n)))))))) = None
 
 -- 0 fixed, 1 calendar, and no other
-abbrev pub coded_mode : ℕ → CodedMode
-coded_mode zero = CodedMode.Is Mode.Fixed
-coded_mode (suc zero) = CodedMode.Is Mode.Calendar
-coded_mode (suc (suc n)) = CodedMode.Unknown
+abbrev pub coded_mode : ℕ → Option Mode
+coded_mode zero = Some Mode.Fixed
+coded_mode (suc zero) = Some Mode.Calendar
+coded_mode (suc (suc n)) = None
 
-abbrev pub axis_in : CalendarAnswer → Period → Mode → UppinaloAxis → CodedAxis
-axis_in (CalendarAnswer.Is c) p m a = CodedAxis.Is (record { calendar = c; period = p; mode = m; reference = a.reference })
-axis_in (CalendarAnswer.Refused r) p m a = CodedAxis.Refused r
+abbrev pub axis_in : Result Calendar Refusal → Period → Mode → UppinaloAxis → Result Axis Refusal
+axis_in (Ok c) p m a = Ok (record { calendar = c; period = p; mode = m; reference = a.reference })
+axis_in (Err r) p m a = Err r
 
 -- an axis, where its three codes name something and its calendar takes the cutover: else the calendar is unknown (2), the period or the mode
 -- ill-formed (3), or the cutover not allowed (16)
-abbrev pub axis_with : CodedCalendar → CodedPeriod → CodedMode → UppinaloAxis → CodedAxis
-axis_with CodedCalendar.Unknown p m a = CodedAxis.Refused UnknownCalendar
-axis_with (CodedCalendar.Is c) CodedPeriod.Unknown m a = CodedAxis.Refused IllFormed
-axis_with (CodedCalendar.Is c) (CodedPeriod.Is p) CodedMode.Unknown a = CodedAxis.Refused IllFormed
-axis_with (CodedCalendar.Is c) (CodedPeriod.Is p) (CodedMode.Is m) a = axis_in (with_cutover c a.cutover) p m a
+abbrev pub axis_with : Option Calendar → Option Period → Option Mode → UppinaloAxis → Result Axis Refusal
+axis_with None p m a = Err UnknownCalendar
+axis_with (Some c) None m a = Err IllFormed
+axis_with (Some c) (Some p) None a = Err IllFormed
+axis_with (Some c) (Some p) (Some m) a = axis_in (with_cutover c a.cutover) p m a
 
-unfoldable pub coded_axis : UppinaloAxis → CodedAxis
+unfoldable pub coded_axis : UppinaloAxis → Result Axis Refusal
 coded_axis a = axis_with (coded_calendar a.calendar) (coded_period a.period) (coded_mode a.mode) a
 
 -- ---- the code of a name

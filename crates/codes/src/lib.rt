@@ -1,4 +1,5 @@
-// The numbers by which calendars, periods and modes cross the C boundary, beside the cutover, which crosses as a date.
+// The numbers by which calendars, periods and modes cross the C boundary, beside the cutover, which crosses as a date. They are functions and no
+// From or TryFrom: the kinds belong to crates that know nothing of C, and a calendar takes the cutover beside its number.
 #![tactic(auto)]
 
 ghost use Rattle.std.specs.Prelude.{◌≡◌};
@@ -6,7 +7,6 @@ ghost use Rattle.codes.specs.Codes.{coded_calendar, calendar_given, coded_period
 
 use axis_types::{Axis, Mode, Period};
 use calendar::{Calendar, Date};
-use cutover::CalendarAnswer;
 use refusal::Refusal;
 
 #[repr(C)]
@@ -19,147 +19,92 @@ pub struct UppinaloAxis {
     pub cutover: Date,
 }
 
-#[derive(Clone, Copy)]
-pub enum CodedCalendar {
-    Is(Calendar),
-    Unknown,
-}
-
-#[derive(Clone, Copy)]
-pub enum CodedPeriod {
-    Is(Period),
-    Unknown,
-}
-
-#[derive(Clone, Copy)]
-pub enum CodedMode {
-    Is(Mode),
-    Unknown,
-}
-
-#[derive(Clone, Copy)]
-pub enum CodedAxis {
-    Is(Axis),
-    Refused(Refusal),
-}
-
 // The calendar that a code names; `standard` with the cutover of 1582.
-fn calendar_of(code: u32) -> CodedCalendar
+fn calendar_of(code: u32) -> Option<Calendar>
     ensures { result ≡ coded_calendar code }
 {
-    if code == 0 {
-        return CodedCalendar::Is(Calendar::Standard(0));
+    match code {
+        0 => Some(Calendar::Standard(0)),
+        1 => Some(Calendar::ProlepticGregorian),
+        2 => Some(Calendar::Julian),
+        3 => Some(Calendar::NoLeap),
+        4 => Some(Calendar::AllLeap),
+        5 => Some(Calendar::Day360),
+        _ => None,
     }
-    if code == 1 {
-        return CodedCalendar::Is(Calendar::ProlepticGregorian);
-    }
-    if code == 2 {
-        return CodedCalendar::Is(Calendar::Julian);
-    }
-    if code == 3 {
-        return CodedCalendar::Is(Calendar::NoLeap);
-    }
-    if code == 4 {
-        return CodedCalendar::Is(Calendar::AllLeap);
-    }
-    if code == 5 {
-        return CodedCalendar::Is(Calendar::Day360);
-    }
-    return CodedCalendar::Unknown;
 }
 
 // The same with a cutover; UnknownCalendar, then CutoverNotAllowed. The cutover of 1582 is told first: with it the code alone names the calendar.
-pub fn calendar_given(code: u32, x: Date) -> CalendarAnswer
+pub fn calendar_given(code: u32, x: Date) -> Result<Calendar, Refusal>
     ensures { result ≡ calendar_given code x }
 {
-    if !cutover::is_first(x) {
-        if code == 0 {
-            return cutover::standard_of(cutover::days_of(x.year, x.month, x.day));
-        }
+    if !cutover::is_first(x) && code == 0 {
+        return cutover::standard_of(cutover::days_of(x.year, x.month, x.day));
     }
     match calendar_of(code) {
-        CodedCalendar::Unknown => return CalendarAnswer::Refused(Refusal::UnknownCalendar),
-        CodedCalendar::Is(c) => return CalendarAnswer::Is(c),
+        None => Err(Refusal::UnknownCalendar),
+        Some(c) => Ok(c),
     }
 }
 
-fn period_of(code: u32) -> CodedPeriod
+fn period_of(code: u32) -> Option<Period>
     ensures { result ≡ coded_period code }
 {
-    if code == 0 {
-        return CodedPeriod::Is(Period::Second);
+    match code {
+        0 => Some(Period::Second),
+        1 => Some(Period::Millisecond),
+        2 => Some(Period::Minute),
+        3 => Some(Period::Hour),
+        4 => Some(Period::Day),
+        5 => Some(Period::Week),
+        6 => Some(Period::Month),
+        7 => Some(Period::Year),
+        _ => None,
     }
-    if code == 1 {
-        return CodedPeriod::Is(Period::Millisecond);
-    }
-    if code == 2 {
-        return CodedPeriod::Is(Period::Minute);
-    }
-    if code == 3 {
-        return CodedPeriod::Is(Period::Hour);
-    }
-    if code == 4 {
-        return CodedPeriod::Is(Period::Day);
-    }
-    if code == 5 {
-        return CodedPeriod::Is(Period::Week);
-    }
-    if code == 6 {
-        return CodedPeriod::Is(Period::Month);
-    }
-    if code == 7 {
-        return CodedPeriod::Is(Period::Year);
-    }
-    return CodedPeriod::Unknown;
 }
 
-fn mode_of(code: u32) -> CodedMode
+fn mode_of(code: u32) -> Option<Mode>
     ensures { result ≡ coded_mode code }
 {
-    if code == 0 {
-        return CodedMode::Is(Mode::Fixed);
+    match code {
+        0 => Some(Mode::Fixed),
+        1 => Some(Mode::Calendar),
+        _ => None,
     }
-    if code == 1 {
-        return CodedMode::Is(Mode::Calendar);
-    }
-    return CodedMode::Unknown;
 }
 
 // The axis that the codes name with the cutover; UnknownCalendar, then IllFormed for the period or the mode, then CutoverNotAllowed.
-pub fn axis_of(a: UppinaloAxis) -> CodedAxis
+pub fn axis_of(a: UppinaloAxis) -> Result<Axis, Refusal>
     ensures { result ≡ coded_axis a }
 {
-    let CodedCalendar::Is(_) = calendar_of(a.calendar) else {
-        return CodedAxis::Refused(Refusal::UnknownCalendar);
+    let Some(_) = calendar_of(a.calendar) else {
+        return Err(Refusal::UnknownCalendar);
     };
-    let CodedPeriod::Is(period) = period_of(a.period) else {
-        return CodedAxis::Refused(Refusal::IllFormed);
+    let Some(period) = period_of(a.period) else {
+        return Err(Refusal::IllFormed);
     };
-    let CodedMode::Is(mode) = mode_of(a.mode) else {
-        return CodedAxis::Refused(Refusal::IllFormed);
+    let Some(mode) = mode_of(a.mode) else {
+        return Err(Refusal::IllFormed);
     };
-    let x = a.cutover;
-    match calendar_given(a.calendar, x) {
-        CalendarAnswer::Refused(r) => return CodedAxis::Refused(r),
-        CalendarAnswer::Is(calendar) => return CodedAxis::Is(Axis {
-            calendar,
-            period,
-            mode,
-            reference: a.reference,
-        }),
-    }
+    let calendar = calendar_given(a.calendar, a.cutover)?;
+    Ok(Axis {
+        calendar,
+        period,
+        mode,
+        reference: a.reference,
+    })
 }
 
 fn calendar_code(c: Calendar) -> u32
     ensures { result ≡ calendar_code c }
 {
     match c {
-        Calendar::Standard(_) => return 0,
-        Calendar::ProlepticGregorian => return 1,
-        Calendar::Julian => return 2,
-        Calendar::NoLeap => return 3,
-        Calendar::AllLeap => return 4,
-        Calendar::Day360 => return 5,
+        Calendar::Standard(_) => 0,
+        Calendar::ProlepticGregorian => 1,
+        Calendar::Julian => 2,
+        Calendar::NoLeap => 3,
+        Calendar::AllLeap => 4,
+        Calendar::Day360 => 5,
     }
 }
 
@@ -167,14 +112,14 @@ fn period_code(p: Period) -> u32
     ensures { result ≡ period_code p }
 {
     match p {
-        Period::Second => return 0,
-        Period::Millisecond => return 1,
-        Period::Minute => return 2,
-        Period::Hour => return 3,
-        Period::Day => return 4,
-        Period::Week => return 5,
-        Period::Month => return 6,
-        Period::Year => return 7,
+        Period::Second => 0,
+        Period::Millisecond => 1,
+        Period::Minute => 2,
+        Period::Hour => 3,
+        Period::Day => 4,
+        Period::Week => 5,
+        Period::Month => 6,
+        Period::Year => 7,
     }
 }
 
@@ -182,8 +127,8 @@ fn mode_code(m: Mode) -> u32
     ensures { result ≡ mode_code m }
 {
     match m {
-        Mode::Fixed => return 0,
-        Mode::Calendar => return 1,
+        Mode::Fixed => 0,
+        Mode::Calendar => 1,
     }
 }
 

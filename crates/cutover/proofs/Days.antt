@@ -1,4 +1,5 @@
 -- The days from 1582-10-15 to a cutover: the search finds those that lead to it, and the test of a date is the test of its days.
+use Rattle.std.specs.Prelude.{Ok, Err, Some, None}
 use mathlib.Core.Path.{◌≡◌, refl, sym, ap, subst, ◌∙◌}
 use mathlib.Core.Bool.{Bool, true, false, not, ◌&&◌, cond, true≢false}
 use Prim.Native.Nat.{ℕ, zero, suc, ◌+◌, ◌-◌, ◌<◌, ◌≤◌}
@@ -8,7 +9,7 @@ use lib.IntN.{ℤ}
 use mir.Syntax.{w64}
 use mir.Val.{SFits}
 use mir.ValLaws.{to_z-of_z}
-use borrow.Author.Tests.{lt-ltb, le-ltb}
+use borrow.Author.Tests.{le-ltb, lt-ltb}
 use Rattle.refusal.specs.declared.Refusal.TheVariants.{CutoverNotAllowed}
 use Rattle.signed.specs.Bias.{unbiased}
 use Rattle.signed.proofs.Tests.{both, and_parts, to_false}
@@ -27,8 +28,7 @@ use Rattle.calendar.proofs.Cutovers.{first_1582, cutover_is, allowed_test, allow
 use Rattle.calendar.proofs.Answering.{years_middle}
 use Rattle.calendar.proofs.Theorems.{cutover_date, dates_exist, one_day}
 use Rattle.cutover.specs.Calendars.{standard_with}
-use Rattle.cutover.specs.Closed.{days_or_more, standard_of}
-use Rattle.cutover.specs.declared.CalendarAnswer.{CalendarAnswer}
+use Rattle.cutover.specs.Closed.{allowed_days, standard_of}
 
 -- the search from day a finds the day m of x, if m lies within n days
 days_to_lem : (x : Date) (n a m : ℕ) → a ≤ m → m < a + n → day_date gregorian m ≡ x → days_to x n (day_date gregorian a) ≡ m - a
@@ -145,21 +145,21 @@ module _ (x : Date) (n : ℕ) (e : date_of ProlepticGregorian (unbiased n) ≡ x
     days_are = ap cutover_days is ∙ days_back_lem k high
 
 -- 1582-10-15 is allowed, after 0 days
-pub first_with : standard_with first_cutover ≡ CalendarAnswer.Is (Standard 0)
+pub first_with : standard_with first_cutover ≡ Ok (Standard 0)
 unfolding standard_with cutover_after times
 first_with =
     let a : allowed_after 0 ≡ true = sym (allowed_test 0 (omega arith)) ∙ lt-ltb _ _ (used 0).fits in
-    λ i. cond ((allowed_after_lem 0 (omega arith) ∙ a) i) (CalendarAnswer.Is (Standard (days_back_lem 0 (omega arith) i))) (CalendarAnswer.Refused CutoverNotAllowed)
+    λ i. cond ((allowed_after_lem 0 (omega arith) ∙ a) i) (Ok (Standard (days_back_lem 0 (omega arith) i))) (Err CutoverNotAllowed)
 
 -- by its days, or by more
-pub with_days : (x : Date) → standard_of (days_or_more x) ≡ standard_with x
-unfolding standard_with days_or_more
+pub with_days : (x : Date) → standard_of (allowed_days x) ≡ standard_with x
+unfolding standard_with allowed_days
 with_days x = go (allowed x) refl
   where
-    go : (t : Bool) → allowed x ≡ t → standard_of (cond t (cutover_days x) 124625) ≡ cond t (CalendarAnswer.Is (Standard (cutover_days x))) (CalendarAnswer.Refused CutoverNotAllowed)
+    go : (t : Bool) → allowed x ≡ t → standard_of (cond t (Some (cutover_days x)) None) ≡ cond t (Ok (Standard (cutover_days x))) (Err CutoverNotAllowed)
     go true h = rw (le-ltb 124624 (cutover_days x) (is_cutover x h).most)
     go false h = refl
 
 -- with the fields of the date handed over one by one
-pub with_fields : (x : Date) → SFits w64 x.year → standard_of (days_or_more (date (read x.year) x.month x.day)) ≡ standard_with x
-with_fields x fits = ap (λ (y : ℤ). standard_of (days_or_more (date y x.month x.day))) (to_z-of_z w64 x.year fits) ∙ with_days x
+pub with_fields : (x : Date) → SFits w64 x.year → standard_of (allowed_days (date (read x.year) x.month x.day)) ≡ standard_with x
+with_fields x fits = ap (λ (y : ℤ). standard_of (allowed_days (date y x.month x.day))) (to_z-of_z w64 x.year fits) ∙ with_days x

@@ -6,17 +6,19 @@ ghost use Rattle.std.specs.Prelude.{◌≡◌, true};
 ghost use Rattle.calendar.specs.Calendar.{date};
 ghost use Rattle.calendar.specs.Cutover.{first_cutover};
 ghost use Rattle.cutover.specs.Calendars.{with_cutover};
-ghost use Rattle.cutover.specs.Closed.{GregorianDay, days_or_more, standard_of};
+ghost use Rattle.cutover.specs.Closed.{GregorianDay, allowed_days, standard_of};
 
-use calendar::{Calendar, Date, FoundDay};
+use calendar::{Calendar, Date};
 use refusal::Refusal;
 
-// A calendar, or why there is none.
-#[derive(Clone, Copy)]
-pub enum CalendarAnswer {
-    Is(Calendar),
-    Refused(Refusal),
-}
+// 0 among the numbers with their bias.
+const ZERO: u64 = 1 << 63;
+
+// 1582-10-15 in `proleptic_gregorian`, with the bias.
+const FIRST: u64 = ZERO - 141427;
+
+// The days from there to the last cutover, 1923-12-31.
+const MOST_DAYS: u64 = 124624;
 
 // The cutover of 1582, which is the default.
 pub fn first_cutover() -> Date
@@ -33,66 +35,56 @@ pub fn first_cutover() -> Date
 pub fn is_first(x: Date) -> bool
     ensures { result ≡ true → x ≡ first_cutover }
 {
-    if signed::biased(x.year) != 0x8000_0000_0000_0000 + 1582 {
-        return false;
-    }
-    if x.month != 10 {
-        return false;
-    }
-    return x.day == 15;
+    x == first_cutover()
 }
 
-// The day number of a Gregorian date plus 2^63, or 0 where it is none.
-fn gregorian_day(x: Date) -> u64
+// The day number of a Gregorian date plus 2^63.
+fn gregorian_day(x: Date) -> Option<u64>
     ensures { GregorianDay x result }
 {
-    match calendar::found_day(Calendar::ProlepticGregorian, x) {
-        FoundDay::Nothing => return 0,
-        FoundDay::Is(n) => return signed::biased(n),
-    }
+    let n = calendar::found_day(Calendar::ProlepticGregorian, x)?;
+    Some(signed::biased(n))
 }
 
-// The days from 1582-10-15 to a cutover, or more than there are to the last where it is not allowed: a number goes in a register, and an
-// answer would go through memory, and so would a date, whose fields are handed over one by one. 1582-10-15 is day -141427 of
-// `proleptic_gregorian`; the last cutover lies 124624 days later.
-pub fn days_of(year: i64, month: u32, day: u32) -> u32
-    ensures { result ≡ days_or_more (date year month day) }
+// The days from 1582-10-15 to a cutover; none where it is not allowed. A date would go through memory: its fields are handed over one by one.
+pub fn days_of(year: i64, month: u32, day: u32) -> Option<u32>
+    ensures { result ≡ allowed_days (date year month day) }
 {
-    let k = gregorian_day(Date { year, month, day });
-    if k < 0x8000_0000_0000_0000 - 141427 {
-        return 124625;
+    let k = gregorian_day(Date { year, month, day })?;
+    if k < FIRST {
+        return None;
     }
-    let days = k - (0x8000_0000_0000_0000 - 141427);
-    if 124624 < days {
-        return 124625;
+    let days = k - FIRST;
+    if MOST_DAYS < days {
+        return None;
     }
-    if calendar::cutover::is_allowed(days as u32) {
-        return days as u32;
+    if !calendar::cutover::is_allowed(days as u32) {
+        return None;
     }
-    return 124625;
+    Some(days as u32)
 }
 
-// `standard` with the cutover of so many days; CutoverNotAllowed where there are more.
-pub fn standard_of(k: u32) -> CalendarAnswer
+// `standard` with the cutover of so many days; CutoverNotAllowed where there are none, or more than to the last.
+pub fn standard_of(k: Option<u32>) -> Result<Calendar, Refusal>
     ensures { result ≡ standard_of k }
 {
-    if 124624 < k {
-        return CalendarAnswer::Refused(Refusal::CutoverNotAllowed);
+    match k {
+        Some(days) if u64::from(days) <= MOST_DAYS => Ok(Calendar::Standard(days)),
+        _ => Err(Refusal::CutoverNotAllowed),
     }
-    return CalendarAnswer::Is(Calendar::Standard(k));
 }
 
 // A calendar with a cutover, which `standard` alone looks at.
-pub fn with_cutover(c: Calendar, x: Date) -> CalendarAnswer
+pub fn with_cutover(c: Calendar, x: Date) -> Result<Calendar, Refusal>
     ensures { result ≡ with_cutover c x }
 {
     match c {
         Calendar::Standard(_) => {
             if is_first(x) {
-                return CalendarAnswer::Is(Calendar::Standard(0));
+                return Ok(Calendar::Standard(0));
             }
-            return standard_of(days_of(x.year, x.month, x.day));
+            standard_of(days_of(x.year, x.month, x.day))
         }
-        _ => return CalendarAnswer::Is(c),
+        _ => Ok(c),
     }
 }

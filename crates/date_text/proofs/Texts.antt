@@ -6,13 +6,15 @@ use mathlib.Core.Bool.{true, false}
 use mathlib.Core.List.{List}
 use mathlib.Core.Logic.{◌↔◌}
 use mathlib.Core.Option.{Option, none, some}
+use Rattle.std.specs.Prelude.{Option as Answer}
 use Rattle.grammar.specs.Grammar.{within, inside, starts, Derives}
 use Rattle.grammar.specs.Reader.{nullable, first, front, back, scan, whole, read}
 use Rattle.grammar.specs.Clear.{extends, outside, apart, clear}
 use Rattle.grammar.specs.Rules.{bytes}
+use Rattle.grammar.specs.Answers.{answered}
+use Rattle.grammar.proofs.Answers.{answer_back}
 use Rattle.grammar.proofs.Reading.{reads, derives, refused, underived, single}
 use Rattle.date_text.specs.declared.WrittenDate.{WrittenDate}
-use Rattle.date_text.specs.declared.WrittenAnswer.{WrittenAnswer}
 use Rattle.date_text.specs.DateRule.{midnight, utc, date_rule}
 use Rattle.date_text.specs.Answers.{written_answer}
 
@@ -31,13 +33,11 @@ pub date_single : (s : List ℕ) (v w : WrittenDate) → Derives date_rule s v �
 date_single s v w = single date_rule s v w date_clear
 
 -- what an answer says of the text
-abbrev pub written_value : WrittenAnswer → Option WrittenDate
-written_value (WrittenAnswer.Read w) = some w
-written_value WrittenAnswer.Refused = none
+abbrev pub written_value : Answer WrittenDate → Option WrittenDate
+written_value r = answered r
 
-pub written_back : (o : Option WrittenDate) (r : WrittenAnswer) → r ≡ written_answer o → o ≡ written_value r
-written_back none r e = ap written_value (sym e)
-written_back (some w) r e = ap written_value (sym e)
+pub written_back : (o : Option WrittenDate) (r : Answer WrittenDate) → r ≡ written_answer o → o ≡ written_value r
+written_back o r e = answer_back o r e
 
 -- some texts: a year alone; every field; a zone behind UTC; and three that are refused, since a zone follows a time only, T is a capital,
 -- and a zone's colon belongs to its minutes

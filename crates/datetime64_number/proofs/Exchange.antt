@@ -1,5 +1,6 @@
 -- A number and its product with k, a number and its quotient by k: the places of crate `ratio` are those of the integers.
 -- The product lies between -A and B.
+use Rattle.std.specs.Prelude.{Ok}
 use mathlib.Core.Path.{◌≡◌, refl, sym, ap, ◌∙◌, subst}
 use Prim.Native.Nat.{ℕ, zero, suc, ◌+◌, ◌-◌, ◌*◌, ◌/◌, ◌≤◌, ◌<◌}
 use native.Mathlib.Nat.{add-mul, div-mul-le_self, div-le_self, le-mul_of_pos_right}
@@ -10,7 +11,6 @@ use mir.Syntax.{w64}
 use mir.Val.{SFits}
 use Rattle.signed.specs.Bias.{biased, unbiased}
 use Rattle.signed.proofs.Differences.{unbiased_biased}
-use Rattle.axis_types.specs.declared.OffsetAnswer.{OffsetAnswer}
 use Rattle.fixed_axis.specs.Fixed.{in_periods}
 use Rattle.fixed_axis.proofs.Offsets.{quotient_of, in_periods_lem}
 use Rattle.ratio.specs.Multiples.{Place}
@@ -57,7 +57,7 @@ module _ (A B k : ℕ) (positive : 0 < k) (small : A ≤ 9223372036854775808) wh
   -- ---- a number n and its quotient
   pub record Quotient (n : ℤ) (i : ℕ) : Type 0 where
     pub biased_quotient : ℕ
-    pub is : in_periods n k ≡ OffsetAnswer.Is (unbiased biased_quotient)
+    pub is : in_periods n k ≡ Ok (unbiased biased_quotient)
     pub place : Place 1 (A / k) (B / k) biased_quotient i
 
   pub quotient_at : (n : ℤ) → SFits w64 n → (i : ℕ) → Place k (A / k) (B / k) (biased n) i → Quotient n i
@@ -70,7 +70,7 @@ module _ (A B k : ℕ) (positive : 0 < k) (small : A ≤ 9223372036854775808) wh
       let e : unbiased u *ℤ pos k ≡ n = product_of k u v t ∙ unbiased_biased n f in
       record { biased_quotient = u; is = ap (λ (z : ℤ). in_periods z k) (sym e) ∙ in_periods_lem (unbiased u) k positive; place = place_of_factor k (A / k) (B / k) u v t positive i p }
 
-  pub quotient_place : (n m : ℤ) → SFits w64 n → Within A B (biased n) → in_periods n k ≡ OffsetAnswer.Is m → (i : ℕ) × Place k (A / k) (B / k) (biased n) i
+  pub quotient_place : (n m : ℤ) → SFits w64 n → Within A B (biased n) → in_periods n k ≡ Ok m → (i : ℕ) × Place k (A / k) (B / k) (biased n) i
   quotient_place n m f w e =
       let q = (quotient_of n k m e).is in
       let u = biased m in

@@ -1,4 +1,5 @@
 -- The numbers of a unit with a fixed ratio: what is one of the multiples is read or written as what it is exchanged for, and nothing else is.
+use Rattle.std.specs.Prelude.{Result, Ok, Err}
 use mathlib.Core.Path.{◌≡◌, refl, sym, ap, ◌∙◌, subst}
 use mathlib.Core.Bool.{Bool, true, false, cond, false≢true}
 use Prim.Native.Nat.{ℕ, zero, suc, ◌-◌, ◌/◌, ◌≤◌, ◌<◌}
@@ -17,9 +18,7 @@ use Rattle.refusal.specs.declared.Refusal.TheVariants.{OutOfRange, Inexact}
 use Rattle.calendar.specs.declared.Calendar.TheVariants.{ProlepticGregorian}
 use Rattle.instant.specs.Instant.{in_range}
 use Rattle.instant.proofs.Range as Range
-use Rattle.axis_types.specs.Reading.{is_none, is_read, offset_refusal}
-use Rattle.axis_types.specs.declared.Reading.{Reading}
-use Rattle.axis_types.specs.declared.OffsetAnswer.{OffsetAnswer}
+use Rattle.axis_types.specs.Reading.{is_none, is_read, offset_refusal, Reading}
 use Rattle.fixed_axis.specs.Fixed.{reading_at, in_periods}
 use Rattle.fixed_axis.proofs.Readings.{inside}
 use Rattle.fixed_axis.proofs.Offsets.{inexact}
@@ -38,7 +37,7 @@ pub has_time : (n : ℤ) → 0 < biased n → is_not_a_time n ≡ false
 has_time (pos n) h = refl
 has_time (negsuc n) h = ne_eqb n 9223372036854775807 (λ e. omega arith)
 
-pub no_time : (n : ℤ) → SFits w64 n → biased n ≡ 0 → is_not_a_time n ≡ true
+no_time : (n : ℤ) → SFits w64 n → biased n ≡ 0 → is_not_a_time n ≡ true
 no_time (pos n) f h = absurd (omega arith)
 no_time (negsuc n) f h = eq-eqb n 9223372036854775807 (omega (arith, f.sfits))
 
@@ -86,7 +85,7 @@ pub record ReadAt (row : UnitRow) (r : Ratio) (n : ℤ) (i : ℕ) : Type 0 where
   pub instant : ℤ
   pub fits : SFits w64 instant
   pub time : is_not_a_time n ≡ false
-  pub read : read_by_row row n ≡ Reading.At instant true
+  pub read : read_by_row row n ≡ Ok (instant, true)
   pub place : Place r.to r.below r.above (biased instant) i
 
 years_fit : (v : ℕ) → Within years_below years_above v → SFits w64 (unbiased v)
@@ -100,7 +99,7 @@ quotient_within : (k u i : ℕ) → 1000 ≤ k → Place 1 (greatest_number / k)
 quotient_within k u i h p = let f = few_quotients k h in record { low = omega (arith, p.is, p.inside, f); high = omega (arith, p.is, p.inside, f) }
 
 -- a 64-bit number that holds a time has its quotient in the years
-pub quotient_inside : (k : ℕ) → 0 < k → 1000 ≤ k → (n m : ℤ) → SFits w64 n → 0 < biased n → in_periods n k ≡ OffsetAnswer.Is m → in_range ProlepticGregorian m ≡ true
+pub quotient_inside : (k : ℕ) → 0 < k → 1000 ≤ k → (n m : ℤ) → SFits w64 n → 0 < biased n → in_periods n k ≡ Ok m → in_range ProlepticGregorian m ≡ true
 quotient_inside k h g n m f b e =
     let p = quotient_place greatest_number greatest_number k h (omega arith) n m f (number_within n f b) e in
     let x = quotient_at greatest_number greatest_number k h (omega arith) n f p.0 p.1 in
@@ -116,7 +115,7 @@ multiple_read k r h q n f i p =
       instant = unbiased x.biased_product;
       fits = years_fit x.biased_product x.bounded;
       time = has_time n (omega (arith, p.is, div-le_self years_below k));
-      read = ap (λ (z : ℤ). reading_at ProlepticGregorian z true) x.is ∙ ap (λ (b : Bool). cond b (Reading.At (unbiased x.biased_product) true) (Reading.Refused OutOfRange)) (in_years_lem x.biased_product x.bounded);
+      read = ap (λ (z : ℤ). reading_at ProlepticGregorian z true) x.is ∙ ap (λ (b : Bool). cond {A = Reading} b (Ok (unbiased x.biased_product, true)) (Err OutOfRange)) (in_years_lem x.biased_product x.bounded);
       place = to_place q (biased (unbiased x.biased_product)) i (subst (λ (u : ℕ). Place k (years_below / k) (years_above / k) u i) (sym (lift_sub x.biased_product 9223372036854775808)) x.place);
     }
 
@@ -130,7 +129,7 @@ fraction_read k r h g q n f i p =
       instant = unbiased x.biased_quotient;
       fits = years_fit x.biased_quotient w;
       time = has_time n (omega (arith, (within greatest_number greatest_number k h (biased n) i p).low));
-      read = ap count_read x.is ∙ ap (λ (b : Bool). cond b (Reading.At (unbiased x.biased_quotient) true) (Reading.Refused OutOfRange)) (in_years_lem x.biased_quotient w);
+      read = ap count_read x.is ∙ ap (λ (b : Bool). cond {A = Reading} b (Ok (unbiased x.biased_quotient, true)) (Err OutOfRange)) (in_years_lem x.biased_quotient w);
       place = to_place q (biased (unbiased x.biased_quotient)) i (subst (λ (u : ℕ). Place 1 (greatest_number / k) (greatest_number / k) u i) (sym (lift_sub x.biased_quotient 9223372036854775808)) x.place);
     }
 
@@ -152,16 +151,16 @@ module _ (k : ℕ) (r : Ratio) (h : 0 < k) (n : ℤ) (f : SFits w64 n) where
       let p = product_place years_below years_above k h (omega arith) n f g w in
       (p.0, place_back q (biased n) p.0 p.1)
 
-  fraction_place : ReadsByRatio (UnitRow.Fraction k) r → 0 < biased n → (m : ℤ) → in_periods n k ≡ OffsetAnswer.Is m → IsMultiple r (biased n)
+  fraction_place : ReadsByRatio (UnitRow.Fraction k) r → 0 < biased n → (m : ℤ) → in_periods n k ≡ Ok m → IsMultiple r (biased n)
   fraction_place q g m e =
       let p = quotient_place greatest_number greatest_number k h (omega arith) n m f (number_within n f g) e in
       (p.0, place_back q (biased n) p.0 p.1)
 
-  multiple_unread : ReadsByRatio (UnitRow.Multiple k) r → (IsMultiple r (biased n) → ⊥) → read_by_row (UnitRow.Multiple k) n ≡ Reading.Refused OutOfRange
+  multiple_unread : ReadsByRatio (UnitRow.Multiple k) r → (IsMultiple r (biased n) → ⊥) → read_by_row (UnitRow.Multiple k) n ≡ Err OutOfRange
   unfolding read_by_row
-  multiple_unread q miss = ap (λ (b : Bool). cond b (Reading.At (n *ℤ pos k) true) (Reading.Refused OutOfRange)) (to_false (in_range ProlepticGregorian (n *ℤ pos k)) (λ e. miss (multiple_place q e)))
+  multiple_unread q miss = ap (λ (b : Bool). cond {A = Reading} b (Ok (n *ℤ pos k, true)) (Err OutOfRange)) (to_false (in_range ProlepticGregorian (n *ℤ pos k)) (λ e. miss (multiple_place q e)))
 
-  fraction_unread : ReadsByRatio (UnitRow.Fraction k) r → 0 < biased n → (IsMultiple r (biased n) → ⊥) → read_by_row (UnitRow.Fraction k) n ≡ Reading.Refused Inexact
+  fraction_unread : ReadsByRatio (UnitRow.Fraction k) r → 0 < biased n → (IsMultiple r (biased n) → ⊥) → read_by_row (UnitRow.Fraction k) n ≡ Err Inexact
   unfolding read_by_row
   fraction_unread q g miss = ap count_read (inexact n k (λ m e. miss (fraction_place q g m e)))
 
@@ -171,14 +170,14 @@ ratio_found (UnitRow.Steps part) r g q n f h e = absurd q
 ratio_found (UnitRow.Multiple k) r g q n f h e = multiple_place k r g n f q (inside ProlepticGregorian (n *ℤ pos k) true e)
 ratio_found (UnitRow.Fraction k) r g q n f h e = go (in_periods n k) refl e
   where
-    go : (a : OffsetAnswer) → in_periods n k ≡ a → is_read (count_read a) ≡ true → IsMultiple r (biased n)
-    go (OffsetAnswer.Is m) e i = fraction_place k r (divisor g) n f q h m e
-    go (OffsetAnswer.Refused m) e i = absurd (false≢true i)
+    go : (a : Result ℤ Refusal) → in_periods n k ≡ a → is_read (count_read a) ≡ true → IsMultiple r (biased n)
+    go (Ok m) e i = fraction_place k r (divisor g) n f q h m e
+    go (Err m) e i = absurd (false≢true i)
 
-pub ratio_unread : (row : UnitRow) (r : Ratio) → GoodRow row → ReadsByRatio row r → (n : ℤ) → SFits w64 n → 0 < biased n → (IsMultiple r (biased n) → ⊥) → read_by_row row n ≡ Reading.Refused (unread r.from)
+pub ratio_unread : (row : UnitRow) (r : Ratio) → GoodRow row → ReadsByRatio row r → (n : ℤ) → SFits w64 n → 0 < biased n → (IsMultiple r (biased n) → ⊥) → read_by_row row n ≡ Err (unread r.from)
 ratio_unread (UnitRow.Steps part) r g q n f h miss = absurd q
-ratio_unread (UnitRow.Multiple k) r g q n f h miss = multiple_unread k r g n f q miss ∙ ap (λ (b : Bool). Reading.Refused (cond b OutOfRange Inexact)) (sym (eq-eqb r.from 1 q.from_is))
-ratio_unread (UnitRow.Fraction k) r g q n f h miss = fraction_unread k r (divisor g) n f q h miss ∙ ap (λ (b : Bool). Reading.Refused (cond b OutOfRange Inexact)) (sym (ne_eqb r.from 1 (λ e. omega (arith, q.from_is, g))))
+ratio_unread (UnitRow.Multiple k) r g q n f h miss = multiple_unread k r g n f q miss ∙ ap (λ (b : Bool). Err (cond b OutOfRange Inexact)) (sym (eq-eqb r.from 1 q.from_is))
+ratio_unread (UnitRow.Fraction k) r g q n f h miss = fraction_unread k r (divisor g) n f q h miss ∙ ap (λ (b : Bool). Err (cond b OutOfRange Inexact)) (sym (ne_eqb r.from 1 (λ e. omega (arith, q.from_is, g))))
 
 -- ---- writing
 
@@ -187,7 +186,7 @@ pub record WrittenAt (row : UnitRow) (r : Ratio) (t : ℤ) (i : ℕ) : Type 0 wh
   pub number : ℤ
   pub fits : SFits w64 number
   pub inside : in_range ProlepticGregorian t ≡ true
-  pub written : write_by_row row t ≡ OffsetAnswer.Is number
+  pub written : write_by_row row t ≡ Ok number
   pub place : Place r.to r.below r.above (biased number) i
 
 -- an instant at a place
@@ -220,7 +219,7 @@ fraction_written k r h g q t f i p =
       number = unbiased v;
       fits = (holds_fits (unbiased v) b).0;
       inside = instant_in t f (quotient_within k (biased t) i g p);
-      written = ap number_written x.is ∙ ap (λ (b : Bool). cond b (OffsetAnswer.Is (unbiased v)) (OffsetAnswer.Refused Inexact)) b;
+      written = ap number_written x.is ∙ ap (λ (b : Bool). cond b (Ok (unbiased v)) (Err Inexact)) b;
       place = to_place q (biased (unbiased v)) i (subst (λ (u : ℕ). Place k (greatest_number / k) (greatest_number / k) u i) (sym (lift_sub v 9223372036854775808)) x.place);
     }
 
@@ -231,7 +230,7 @@ ratio_written (UnitRow.Fraction k) r g q = fraction_written k r (divisor g) g q
 
 module _ (k : ℕ) (r : Ratio) (h : 0 < k) (t : ℤ) (f : SFits w64 t) where
   -- an instant that is written is one of the multiples
-  instant_place : WritesByRatio (UnitRow.Multiple k) r → in_range ProlepticGregorian t ≡ true → (m : ℤ) → in_periods t k ≡ OffsetAnswer.Is m → IsMultiple r (biased t)
+  instant_place : WritesByRatio (UnitRow.Multiple k) r → in_range ProlepticGregorian t ≡ true → (m : ℤ) → in_periods t k ≡ Ok m → IsMultiple r (biased t)
   instant_place q g m e =
       let w = within_years (biased t) (ap (in_range ProlepticGregorian) (unbiased_biased t f) ∙ g) in
       let p = quotient_place years_below years_above k h (omega arith) t m f w e in
@@ -243,29 +242,29 @@ module _ (k : ℕ) (r : Ratio) (h : 0 < k) (t : ℤ) (f : SFits w64 t) where
       let p = product_place greatest_number greatest_number k h (omega arith) t f g.0 (number_within (t *ℤ pos k) g.0 g.1) in
       (p.0, place_back q (biased t) p.0 p.1)
 
-  multiple_unwritten : WritesByRatio (UnitRow.Multiple k) r → in_range ProlepticGregorian t ≡ true → (IsMultiple r (biased t) → ⊥) → write_by_row (UnitRow.Multiple k) t ≡ OffsetAnswer.Refused Inexact
+  multiple_unwritten : WritesByRatio (UnitRow.Multiple k) r → in_range ProlepticGregorian t ≡ true → (IsMultiple r (biased t) → ⊥) → write_by_row (UnitRow.Multiple k) t ≡ Err Inexact
   unfolding write_by_row
   multiple_unwritten q g miss = inexact t k (λ m e. miss (instant_place q g m e))
 
-  fraction_unwritten : WritesByRatio (UnitRow.Fraction k) r → (IsMultiple r (biased t) → ⊥) → write_by_row (UnitRow.Fraction k) t ≡ OffsetAnswer.Refused Inexact
+  fraction_unwritten : WritesByRatio (UnitRow.Fraction k) r → (IsMultiple r (biased t) → ⊥) → write_by_row (UnitRow.Fraction k) t ≡ Err Inexact
   unfolding write_by_row
-  fraction_unwritten q miss = ap (λ (b : Bool). cond b (OffsetAnswer.Is (t *ℤ pos k)) (OffsetAnswer.Refused Inexact)) (to_false (holds_time (t *ℤ pos k)) (λ e. miss (held_place q e)))
+  fraction_unwritten q miss = ap (λ (b : Bool). cond b (Ok (t *ℤ pos k)) (Err Inexact)) (to_false (holds_time (t *ℤ pos k)) (λ e. miss (held_place q e)))
 
 pub instant_found : (row : UnitRow) (r : Ratio) → GoodRow row → WritesByRatio row r → (t : ℤ) → SFits w64 t → in_range ProlepticGregorian t ≡ true → is_none (offset_refusal (write_by_row row t)) ≡ true → IsMultiple r (biased t)
 unfolding write_by_row
 instant_found (UnitRow.Steps part) r g q t f h e = absurd q
 instant_found (UnitRow.Multiple k) r g q t f h e = go (in_periods t k) refl e
   where
-    go : (a : OffsetAnswer) → in_periods t k ≡ a → is_none (offset_refusal a) ≡ true → IsMultiple r (biased t)
-    go (OffsetAnswer.Is m) e i = instant_place k r g t f q h m e
-    go (OffsetAnswer.Refused m) e i = absurd (false≢true i)
+    go : (a : Result ℤ Refusal) → in_periods t k ≡ a → is_none (offset_refusal a) ≡ true → IsMultiple r (biased t)
+    go (Ok m) e i = instant_place k r g t f q h m e
+    go (Err m) e i = absurd (false≢true i)
 instant_found (UnitRow.Fraction k) r g q t f h e = go (holds_time (t *ℤ pos k)) refl e
   where
-    go : (b : Bool) → holds_time (t *ℤ pos k) ≡ b → is_none (offset_refusal (cond b (OffsetAnswer.Is (t *ℤ pos k)) (OffsetAnswer.Refused Inexact))) ≡ true → IsMultiple r (biased t)
+    go : (b : Bool) → holds_time (t *ℤ pos k) ≡ b → is_none (offset_refusal (cond b (Ok (t *ℤ pos k)) (Err Inexact))) ≡ true → IsMultiple r (biased t)
     go true e i = held_place k r (divisor g) t f q e
     go false e i = absurd (false≢true i)
 
-pub ratio_unwritten : (row : UnitRow) (r : Ratio) → GoodRow row → WritesByRatio row r → (t : ℤ) → SFits w64 t → in_range ProlepticGregorian t ≡ true → (IsMultiple r (biased t) → ⊥) → write_by_row row t ≡ OffsetAnswer.Refused Inexact
+pub ratio_unwritten : (row : UnitRow) (r : Ratio) → GoodRow row → WritesByRatio row r → (t : ℤ) → SFits w64 t → in_range ProlepticGregorian t ≡ true → (IsMultiple r (biased t) → ⊥) → write_by_row row t ≡ Err Inexact
 ratio_unwritten (UnitRow.Steps part) r g q t f i miss = absurd q
 ratio_unwritten (UnitRow.Multiple k) r g q t f i miss = multiple_unwritten k r g t f q i miss
 ratio_unwritten (UnitRow.Fraction k) r g q t f i miss = fraction_unwritten k r (divisor g) t f q miss

@@ -13,6 +13,7 @@
 --   unread            why another number is refused: `Unread`
 --   year-read         a number of years that is read is 1 January of year 1970 + n, at midnight
 --   month-read        a number of months that is read is the first of the month n months after January 1970, at midnight
+use Rattle.std.specs.Prelude.{Result, Ok, Err}
 use mathlib.Core.Path.{◌≡◌, refl, sym, ap, ◌∙◌, subst}
 use mathlib.Core.Bool.{Bool, true, false, cond}
 use mathlib.Core.Logic.{◌↔◌}
@@ -33,9 +34,8 @@ use Rattle.instant.specs.Instant.{day_of, time_of, in_range}
 use Rattle.step.specs.Steps.{YearMonth, year_month, step_after, step_before, steps, month_reached, down_to, date_after}
 use Rattle.step.specs.declared.Part.{Part}
 use Rattle.step.proofs.Theorems.{steps_exist}
+use Rattle.axis_types.proofs.Answers.{one_reading}
 use Rattle.axis_types.specs.Reading.{is_none, is_read, offset_refusal}
-use Rattle.axis_types.specs.declared.Reading.{Reading}
-use Rattle.axis_types.specs.declared.OffsetAnswer.{OffsetAnswer}
 use Rattle.calendar_axis.specs.Steps.{date_at}
 use Rattle.calendar_axis.proofs.Demands as Steps
 use Rattle.datetime64_type.specs.Units.{unit_row_of}
@@ -102,34 +102,34 @@ module _ (unit : UnitCode) where
   abbrev row : UnitRow
   row = unit_row_of unit
 
-  read_row : (n t : ℤ) (exact : Bool) → read_number unit n ≡ Reading.At t exact → (is_not_a_time n ≡ false) × (read_by_row row n ≡ Reading.At t exact)
+  read_row : (n t : ℤ) (exact : Bool) → read_number unit n ≡ Ok (t, exact) → (is_not_a_time n ≡ false) × (read_by_row row n ≡ Ok (t, exact))
   read_row n t exact e = let h = Units.read_time unit n (ap is_read e) in (h, sym (Units.read_by_row_lem unit n h) ∙ e)
 
-  written_row : (t n : ℤ) → write_number unit t ≡ OffsetAnswer.Is n → (in_range ProlepticGregorian t ≡ true) × (write_by_row row t ≡ OffsetAnswer.Is n)
-  written_row t n e = let i = Units.written_inside unit t (ap (λ (a : OffsetAnswer). is_none (offset_refusal a)) e) in (i, sym (Units.written_by_row unit t i) ∙ e)
+  written_row : (t n : ℤ) → write_number unit t ≡ Ok n → (in_range ProlepticGregorian t ≡ true) × (write_by_row row t ≡ Ok n)
+  written_row t n e = let i = Units.written_inside unit t (ap (λ (a : Result ℤ Refusal). is_none (offset_refusal a)) e) in (i, sym (Units.written_by_row unit t i) ∙ e)
 
   -- ---- there and back
 
-  pub written_reads : (t n : ℤ) → write_number unit t ≡ OffsetAnswer.Is n → read_number unit n ≡ Reading.At t true
+  pub written_reads : (t n : ℤ) → write_number unit t ≡ Ok n → read_number unit n ≡ Ok (t, true)
   written_reads t n e =
       let w = written_row t n e in
       Units.read_by_row_lem unit n (row_time row t n w.0 w.1).1 ∙ row_reads row (rows unit) t n w.0 w.1
 
-  pub written_fits : (t n : ℤ) → write_number unit t ≡ OffsetAnswer.Is n → SFits w64 n
+  pub written_fits : (t n : ℤ) → write_number unit t ≡ Ok n → SFits w64 n
   written_fits t n e = let w = written_row t n e in (row_time row t n w.0 w.1).0
 
-  pub read_inside : (n t : ℤ) (exact : Bool) → read_number unit n ≡ Reading.At t exact → in_range ProlepticGregorian t ≡ true
+  pub read_inside : (n t : ℤ) (exact : Bool) → read_number unit n ≡ Ok (t, exact) → in_range ProlepticGregorian t ≡ true
   read_inside n t exact e = row_inside row n t exact (read_row n t exact e).1
 
-  pub read_writes : (n t : ℤ) (exact : Bool) → SFits w64 n → read_number unit n ≡ Reading.At t exact → write_number unit t ≡ OffsetAnswer.Is n
+  pub read_writes : (n t : ℤ) (exact : Bool) → SFits w64 n → read_number unit n ≡ Ok (t, exact) → write_number unit t ≡ Ok n
   read_writes n t exact f e =
       let r = read_row n t exact e in
       Units.written_by_row unit t (read_inside n t exact e) ∙ row_writes row (rows unit) n t exact (f, r.0) r.1
 
-  pub read_exact : (n t : ℤ) (exact : Bool) → SFits w64 n → read_number unit n ≡ Reading.At t exact → exact ≡ true
-  read_exact n t exact f e = let w = written_reads t n (read_writes n t exact f e) in cc
+  pub read_exact : (n t : ℤ) (exact : Bool) → SFits w64 n → read_number unit n ≡ Ok (t, exact) → exact ≡ true
+  read_exact n t exact f e = (one_reading t t exact true (sym e ∙ written_reads t n (read_writes n t exact f e))).1
 
-  pub one_number : (n m t : ℤ) (i j : Bool) → SFits w64 n → SFits w64 m → read_number unit n ≡ Reading.At t i → read_number unit m ≡ Reading.At t j → n ≡ m
+  pub one_number : (n m t : ℤ) (i j : Bool) → SFits w64 n → SFits w64 m → read_number unit n ≡ Ok (t, i) → read_number unit m ≡ Ok (t, j) → n ≡ m
   one_number n m t i j f g e h =
       let w = read_writes n t i f e in
       let v = read_writes m t j g h in
@@ -137,45 +137,45 @@ module _ (unit : UnitCode) where
 
   -- ---- an instant that is refused
 
-  pub only_inexact : (t : ℤ) (r : Refusal) → in_range ProlepticGregorian t ≡ true → write_number unit t ≡ OffsetAnswer.Refused r → r ≡ Inexact
+  pub only_inexact : (t : ℤ) (r : Refusal) → in_range ProlepticGregorian t ≡ true → write_number unit t ≡ Err r → r ≡ Inexact
   only_inexact t r i e = row_inexact row t r (sym (Units.written_by_row unit t i) ∙ e)
 
-  pub inexact_writing : (t : ℤ) → in_range ProlepticGregorian t ≡ true → (write_number unit t ≡ OffsetAnswer.Refused Inexact) ↔ ((n : ℤ) → SFits w64 n → read_number unit n ≡ Reading.At t true → ⊥)
+  pub inexact_writing : (t : ℤ) → in_range ProlepticGregorian t ≡ true → (write_number unit t ≡ Err Inexact) ↔ ((n : ℤ) → SFits w64 n → read_number unit n ≡ Ok (t, true) → ⊥)
   inexact_writing t i = ((λ e n f h. not_written Inexact n (sym (read_writes n t true f h) ∙ e)), go (write_number unit t) refl)
     where
-      go : (a : OffsetAnswer) → write_number unit t ≡ a → ((n : ℤ) → SFits w64 n → read_number unit n ≡ Reading.At t true → ⊥) → a ≡ OffsetAnswer.Refused Inexact
-      go (OffsetAnswer.Is n) e none = absurd (none n (written_fits t n e) (written_reads t n e))
-      go (OffsetAnswer.Refused r) e none = ap OffsetAnswer.Refused (only_inexact t r i e)
+      go : (a : Result ℤ Refusal) → write_number unit t ≡ a → ((n : ℤ) → SFits w64 n → read_number unit n ≡ Ok (t, true) → ⊥) → a ≡ Err Inexact
+      go (Ok n) e none = absurd (none n (written_fits t n e) (written_reads t n e))
+      go (Err r) e none = ap Err (only_inexact t r i e)
 
-  pub past_writing : (t : ℤ) → (write_number unit t ≡ OffsetAnswer.Refused OutOfRange) ↔ (in_range ProlepticGregorian t ≡ false)
+  pub past_writing : (t : ℤ) → (write_number unit t ≡ Err OutOfRange) ↔ (in_range ProlepticGregorian t ≡ false)
   past_writing t = ((λ e. to_false (in_range ProlepticGregorian t) (λ i. let h = only_inexact t OutOfRange i e in let k : ◌≡◌ {A = ℕ} 0 1 = cc in omega arith)), Units.instant_past unit t)
 
   -- ---- a number that is refused
 
-  pub unread : (n : ℤ) (r : Refusal) → SFits w64 n → is_not_a_time n ≡ false → (read_number unit n ≡ Reading.Refused r) ↔ Unread row n r
+  pub unread : (n : ℤ) (r : Refusal) → SFits w64 n → is_not_a_time n ≡ false → (read_number unit n ≡ Err r) ↔ Unread row n r
   unread n r f h =
       let b = Units.read_by_row_lem unit n h in
       let u = row_unread row (rows unit) n (f, h) r in
       ((λ e. u.0 (sym b ∙ e)), λ w. b ∙ u.1 w)
 
-  pub not_a_time_read : (n : ℤ) → SFits w64 n → (read_number unit n ≡ Reading.Refused NotATime) ↔ (is_not_a_time n ≡ true)
+  pub not_a_time_read : (n : ℤ) → SFits w64 n → (read_number unit n ≡ Err NotATime) ↔ (is_not_a_time n ≡ true)
   unfolding read_number
-  not_a_time_read n f = (go (is_not_a_time n) refl, λ h. ap (λ (b : Bool). cond b (Reading.Refused NotATime) (read_by_row row n)) h)
+  not_a_time_read n f = (go (is_not_a_time n) refl, λ h. ap (λ (b : Bool). cond b (Err NotATime) (read_by_row row n)) h)
     where
-      go : (b : Bool) → is_not_a_time n ≡ b → read_number unit n ≡ Reading.Refused NotATime → b ≡ true
+      go : (b : Bool) → is_not_a_time n ≡ b → read_number unit n ≡ Err NotATime → b ≡ true
       go true h e = refl
       go false h e = absurd (other_reason row n ((unread n NotATime f h).0 e))
 
   -- ---- calendar steps
 
-  steps_first : (part : Part) → row ≡ UnitRow.Steps part → (n t : ℤ) (exact : Bool) → read_number unit n ≡ Reading.At t exact → Midnight (first_of (month_reached part ProlepticGregorian n january1970)) t
+  steps_first : (part : Part) → row ≡ UnitRow.Steps part → (n t : ℤ) (exact : Bool) → read_number unit n ≡ Ok (t, exact) → Midnight (first_of (month_reached part ProlepticGregorian n january1970)) t
   steps_first part s n t exact e =
       let h = (read_row n t exact e).0 in
       let m = Steps.moved part ProlepticGregorian (pos 0) n t exact (sym (Units.read_steps_lem unit part s n h) ∙ e) in
       record { date_is = m.date_is ∙ (ap (date_after part ProlepticGregorian n) epoch_is ∙ first_reached part n); time_is = m.time_is ∙ start_time }
 
-pub year_read : (n t : ℤ) (exact : Bool) → read_number UnitCode.Year n ≡ Reading.At t exact → Midnight (date (pos 1970 +ℤ n) 1 1) t
+pub year_read : (n t : ℤ) (exact : Bool) → read_number UnitCode.Year n ≡ Ok (t, exact) → Midnight (date (pos 1970 +ℤ n) 1 1) t
 year_read n t exact e = subst (λ (p : YearMonth). Midnight (first_of p) t) (years n) (steps_first UnitCode.Year Part.Year refl n t exact e)
 
-pub month_read : (n t : ℤ) (exact : Bool) → read_number UnitCode.Month n ≡ Reading.At t exact → Midnight (first_of (month_reached Part.Month ProlepticGregorian n january1970)) t
+pub month_read : (n t : ℤ) (exact : Bool) → read_number UnitCode.Month n ≡ Ok (t, exact) → Midnight (first_of (month_reached Part.Month ProlepticGregorian n january1970)) t
 month_read = steps_first UnitCode.Month Part.Month refl

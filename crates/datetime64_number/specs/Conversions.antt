@@ -1,5 +1,5 @@
 -- What a run finds once for its unit. No promise to a caller of the library rests on it.
-use Rattle.std.specs.Prelude.{◌≡◌, true, false, ℕ, ◌/◌, ℤ, pos}
+use Rattle.std.specs.Prelude.{◌≡◌, true, false, ℕ, ◌/◌, ℤ, pos, Result, Ok, Err}
 use Rattle.std.proofs.Math.Option.{Option, none, some}
 use Rattle.std.specs.Int.{w64}
 use Rattle.std.proofs.Common.{SFits}
@@ -16,7 +16,6 @@ use Rattle.ratio.specs.declared.Ratio.{Ratio}
 use Rattle.datetime64_type.specs.declared.UnitRow.{UnitRow}
 use Rattle.datetime64_number.specs.Numbers.{is_not_a_time}
 use Rattle.datetime64_number.specs.declared.Conversion.{Conversion}
-use Rattle.datetime64_number.specs.declared.NumberCheck.{NumberCheck}
 
 -- the microseconds from 1970 back to the first instant of the years -9999 to 9999, and on to the last
 abbrev pub years_below : ℕ
@@ -50,9 +49,9 @@ Writes row (Conversion.Calendar part start) = (row ≡ UnitRow.Steps part) × St
 Writes row (Conversion.Fixed ratio) = WritesByRatio row ratio
 
 -- why a number is refused, or nothing
-abbrev pub refusal_in : NumberCheck → Option Refusal
-refusal_in NumberCheck.Good = none
-refusal_in (NumberCheck.Refused r) = some r
+abbrev pub refusal_in : Result (Unit {0}) Refusal → Option Refusal
+refusal_in (Ok done) = none
+refusal_in (Err r) = some r
 
 -- every number of steps between the bounds is read
 pub record NearBounds (part : Part) (b : Bounds) : Type 0 where

@@ -13,7 +13,6 @@ ghost use Rattle.datetime64_type.specs.declared.UnitRow.{UnitRow};
 ghost use Rattle.datetime64_number.specs.Numbers.{is_not_a_time, read_number, write_number};
 ghost use Rattle.datetime64_number.specs.Conversions.{ReadsByRatio, WritesByRatio, Reads, Writes, refusal_in, NearBounds};
 
-use axis_types::{OffsetAnswer, Reading};
 use calendar::Calendar;
 use calendar_axis::Start;
 use datetime64_type::{UnitCode, UnitRow};
@@ -21,19 +20,19 @@ use ratio::{Bounds, Ratio};
 use refusal::Refusal;
 use step::Part;
 
-// How the numbers of a unit become instants, or instants its numbers: by steps of the calendar, or by a fixed ratio.
+// How the numbers of a unit become instants, or instants its numbers: by steps of the calendar, or by a fixed ratio. It is data that contracts
+// speak of, and no closure: one that is handed out is refused.
+// The functions below take a unit beside its part and start, or beside its ratio: docs/PROMISES.md names them, and their signatures stay.
 #[derive(Clone, Copy)]
 pub enum Conversion {
     Calendar(Part, Start),
     Fixed(Ratio),
 }
 
-// Whether a number is read, or an instant written, and why not.
-#[derive(Clone, Copy)]
-pub enum NumberCheck {
-    Good,
-    Refused(Refusal),
-}
+// The microseconds from 1970 back to the first instant of the years -9999 to 9999, and on to the last.
+const YEARS_BELOW: u64 = 377_705_116_800_000_000;
+
+const YEARS_ABOVE: u64 = 253_402_300_799_999_999;
 
 // The conversion of numbers into instants. What is multiplied lies in the years where it is an instant, and in 64 bits where it is a number.
 pub fn reading_of(unit: UnitCode) -> Conversion
@@ -41,22 +40,15 @@ pub fn reading_of(unit: UnitCode) -> Conversion
 {
     match datetime64_type::row_of(unit) {
         UnitRow::Steps(part) => {
-            return Conversion::Calendar(
-                part,
-                calendar_axis::start_of(Calendar::ProlepticGregorian, 0),
-            );
+            let start = calendar_axis::start_of(Calendar::ProlepticGregorian, 0);
+            Conversion::Calendar(part, start)
         }
         UnitRow::Multiple(k) => {
-            return Conversion::Fixed(ratio::ratio_of(
-                1,
-                k,
-                377705116800000000 / k,
-                253402300799999999 / k,
-            ));
+            Conversion::Fixed(Ratio::new(1, k, YEARS_BELOW / k, YEARS_ABOVE / k))
         }
         UnitRow::Fraction(k) => {
             let most = 0x7fff_ffff_ffff_ffff / k;
-            return Conversion::Fixed(ratio::ratio_of(k, 1, most, most));
+            Conversion::Fixed(Ratio::new(k, 1, most, most))
         }
     }
 }
@@ -66,28 +58,28 @@ pub fn writing_of(unit: UnitCode) -> Conversion
     ensures { Writes (unit_row_of unit) result }
 {
     match reading_of(unit) {
-        Conversion::Calendar(part, start) => return Conversion::Calendar(part, start),
-        Conversion::Fixed(ratio) => return Conversion::Fixed(ratio::turned(ratio)),
+        Conversion::Calendar(part, start) => Conversion::Calendar(part, start),
+        Conversion::Fixed(ratio) => Conversion::Fixed(ratio.turned()),
     }
 }
 
 // ---- reading
 
 // A number of a unit with a fixed ratio. What is refused holds no time, leads out of the years, or is no whole count of microseconds.
-fn check_fixed(unit: UnitCode, ratio: Ratio, n: i64) -> NumberCheck
+fn check_fixed(unit: UnitCode, ratio: Ratio, n: i64) -> Result<(), Refusal>
     requires { ReadsByRatio (unit_row_of unit) ratio }
     ensures { refusal_in result ≡ refusal_of (read_number unit n) }
 {
-    if ratio::has(ratio, n) {
-        return NumberCheck::Good;
+    if ratio.has(n) {
+        return Ok(());
     }
-    if signed::biased(n) == 0 {
-        return NumberCheck::Refused(Refusal::NotATime);
+    if n == i64::MIN {
+        return Err(Refusal::NotATime);
     }
     if ratio.from == 1 {
-        return NumberCheck::Refused(Refusal::OutOfRange);
+        return Err(Refusal::OutOfRange);
     }
-    return NumberCheck::Refused(Refusal::Inexact);
+    Err(Refusal::Inexact)
 }
 
 // So many steps from 1970, on or back, are 8000 years, and stay in the years -9999 to 9999.
@@ -95,8 +87,8 @@ fn near_steps(part: Part) -> u64
     ensures { (result * months_of part ≡ 96000) × (result ≤ 96000) }
 {
     match part {
-        Part::Month => return 96000,
-        Part::Year => return 8000,
+        Part::Month => 96000,
+        Part::Year => 8000,
     }
 }
 
@@ -112,29 +104,26 @@ pub fn near_bounds(part: Part) -> Bounds
 }
 
 // A number of months or years.
-fn check_steps(unit: UnitCode, part: Part, start: Start, n: i64) -> NumberCheck
+fn check_steps(unit: UnitCode, part: Part, start: Start, n: i64) -> Result<(), Refusal>
     requires row { unit_row_of unit ≡ UnitRow.Steps part }
     requires from { StartOf ProlepticGregorian (pos 0) start }
     ensures { refusal_in result ≡ refusal_of (read_number unit n) }
 {
-    if signed::biased(n) == 0 {
-        return NumberCheck::Refused(Refusal::NotATime);
+    if n == i64::MIN {
+        return Err(Refusal::NotATime);
     }
-    let reading = calendar_axis::read_from(Calendar::ProlepticGregorian, part, start, n).reading;
-    match reading {
-        Reading::At(_, _) => return NumberCheck::Good,
-        Reading::Refused(r) => return NumberCheck::Refused(r),
-    }
+    calendar_axis::read_from(Calendar::ProlepticGregorian, part, start, n)?;
+    Ok(())
 }
 
 // Whether a number is read.
-pub fn check_number(unit: UnitCode, conversion: Conversion, n: i64) -> NumberCheck
+pub fn check_number(unit: UnitCode, conversion: Conversion, n: i64) -> Result<(), Refusal>
     requires { Reads (unit_row_of unit) conversion }
     ensures { refusal_in result ≡ refusal_of (read_number unit n) }
 {
     match conversion {
-        Conversion::Calendar(part, start) => return check_steps(unit, part, start, n),
-        Conversion::Fixed(ratio) => return check_fixed(unit, ratio, n),
+        Conversion::Calendar(part, start) => check_steps(unit, part, start, n),
+        Conversion::Fixed(ratio) => check_fixed(unit, ratio, n),
     }
 }
 
@@ -154,27 +143,27 @@ pub fn instant_by_ratio(unit: UnitCode, ratio: Ratio, n: i64) -> i64
     requires read { is_read (read_number unit n) ≡ true }
     ensures { result ≡ instant_of (read_number unit n) }
 {
-    ratio::exchanged(ratio, n)
+    ratio.exchanged(n)
 }
 
 // ---- writing
 
 // An instant in a unit with a fixed ratio.
-fn check_fixed_instant(unit: UnitCode, ratio: Ratio, t: i64) -> NumberCheck
+fn check_fixed_instant(unit: UnitCode, ratio: Ratio, t: i64) -> Result<(), Refusal>
     requires { WritesByRatio (unit_row_of unit) ratio }
     ensures { refusal_in result ≡ offset_refusal (write_number unit t) }
 {
-    if ratio::has(ratio, t) {
-        return NumberCheck::Good;
+    if ratio.has(t) {
+        return Ok(());
     }
     if instant::in_range(Calendar::ProlepticGregorian, t) {
-        return NumberCheck::Refused(Refusal::Inexact);
+        return Err(Refusal::Inexact);
     }
-    return NumberCheck::Refused(Refusal::OutOfRange);
+    Err(Refusal::OutOfRange)
 }
 
 // An instant in months or years, as a number or a refusal.
-fn write_steps(unit: UnitCode, part: Part, start: Start, t: i64) -> OffsetAnswer
+fn write_steps(unit: UnitCode, part: Part, start: Start, t: i64) -> Result<i64, Refusal>
     requires row { unit_row_of unit ≡ UnitRow.Steps part }
     requires from { StartOf ProlepticGregorian (pos 0) start }
     ensures { result ≡ write_number unit t }
@@ -182,20 +171,17 @@ fn write_steps(unit: UnitCode, part: Part, start: Start, t: i64) -> OffsetAnswer
     if instant::in_range(Calendar::ProlepticGregorian, t) {
         return calendar_axis::write_from(Calendar::ProlepticGregorian, part, start, t);
     }
-    return OffsetAnswer::Refused(Refusal::OutOfRange);
+    Err(Refusal::OutOfRange)
 }
 
 // Whether an instant is written.
-pub fn check_instant(unit: UnitCode, conversion: Conversion, t: i64) -> NumberCheck
+pub fn check_instant(unit: UnitCode, conversion: Conversion, t: i64) -> Result<(), Refusal>
     requires { Writes (unit_row_of unit) conversion }
     ensures { refusal_in result ≡ offset_refusal (write_number unit t) }
 {
     match conversion {
-        Conversion::Calendar(part, start) => match write_steps(unit, part, start, t) {
-            OffsetAnswer::Is(_) => return NumberCheck::Good,
-            OffsetAnswer::Refused(r) => return NumberCheck::Refused(r),
-        },
-        Conversion::Fixed(ratio) => return check_fixed_instant(unit, ratio, t),
+        Conversion::Calendar(part, start) => write_steps(unit, part, start, t).map(|_| ()),
+        Conversion::Fixed(ratio) => check_fixed_instant(unit, ratio, t),
     }
 }
 
@@ -205,10 +191,7 @@ pub fn number_by_steps(unit: UnitCode, part: Part, start: Start, t: i64) -> i64
     requires from { StartOf ProlepticGregorian (pos 0) start }
     ensures { result ≡ offset_of (write_number unit t) }
 {
-    match write_steps(unit, part, start, t) {
-        OffsetAnswer::Is(n) => return n,
-        OffsetAnswer::Refused(_) => return 0,
-    }
+    write_steps(unit, part, start, t).unwrap_or(0)
 }
 
 // The number of an instant in another unit that is known to be written.
@@ -217,5 +200,5 @@ pub fn number_by_ratio(unit: UnitCode, ratio: Ratio, t: i64) -> i64
     requires written { is_none (offset_refusal (write_number unit t)) ≡ true }
     ensures { result ≡ offset_of (write_number unit t) }
 {
-    ratio::exchanged(ratio, t)
+    ratio.exchanged(t)
 }

@@ -1,12 +1,14 @@
 -- Bytes cut into records.
-use mathlib.Core.Path.{◌≡◌, refl, ap, ◌∙◌}
-use mathlib.Core.List.{List, [], ◌++◌, append-nil}
+use mathlib.Core.Path.{◌≡◌, refl, sym, ap, ◌∙◌, subst}
+use mathlib.Core.List.{List, [], ◌∷◌, map}
 use Prim.Native.Nat.{ℕ, zero, suc, ◌+◌, ◌*◌, ◌≤◌, ◌<◌}
 use native.Mathlib.Nat.{not-suc-le-zero, le_of_suc-le-suc}
 use native.Mathlib.Omega.{arith}
-use lib.ListN.{length, take, drop, get_or, length-take, drop_of_length-le}
-use lib.Seq.{take_all, drop-drop}
-use Rattle.datetime64_runs.specs.Records.{cut, record_count, records_in}
+use lib.ListN.{length, take, drop, get_or, length-map}
+use lib.Seq.{drop-drop}
+use lib.IntN.{ℤ, pos}
+use Rattle.datetime64_type.specs.declared.ByteOrder.{ByteOrder}
+use Rattle.datetime64_runs.specs.Records.{record_number, number_at, cut, record_count, records_in}
 
 pub cut_length : (n : ℕ) (s : List ℕ) → length (cut n s) ≡ n
 unfolding cut
@@ -33,10 +35,26 @@ module _ (s : List ℕ) where
   pub record_ends : (i : ℕ) → i < record_count s → 8 * i + 8 ≤ length s
   record_ends i h = omega arith
 
--- eight bytes put in the place of the eight from a on
-pub put_eight : (xs r ys : List ℕ) (a k : ℕ) → length r ≡ 8 → k ≡ 8 → ys ≡ take (length r) r ++ drop (length r) (take k (drop a xs)) → take a xs ++ (ys ++ drop k (drop a xs)) ≡ take a xs ++ (r ++ drop (a + 8) xs)
-put_eight xs r ys a k l e f =
-    let t : take (length r) r ≡ r = take_all (length r) r (omega arith) in
-    let d : drop (length r) (take k (drop a xs)) ≡ [] = drop_of_length-le (take k (drop a xs)) {i = length r} (omega (arith, length-take k (drop a xs))) in
-    let y : ys ≡ r = f ∙ ((λ i. t i ++ d i) ∙ append-nil r) in
-    λ i. take a xs ++ (y i ++ (ap (λ (m : ℕ). drop m (drop a xs)) e ∙ drop-drop 8 a xs) i)
+-- ---- the numbers of records
+abbrev pub numbers_in : ByteOrder → List ℕ → List ℤ
+numbers_in order s = map (record_number order) (records_in s)
+
+number_of : (f : List ℕ → ℤ) (rs : List (List ℕ)) (i : ℕ) → i < length rs → get_or (map f rs) i (pos 0) ≡ f (get_or rs i [])
+number_of f [] i h = absurd (not-suc-le-zero h)
+number_of f (r ∷ rs) zero h = refl
+number_of f (r ∷ rs) (suc i) h = number_of f rs i (le_of_suc-le-suc h)
+
+module _ (order : ByteOrder) (s : List ℕ) where
+  pub numbers_count : length (numbers_in order s) ≡ record_count s
+  numbers_count = length-map (records_in s) (record_number order) ∙ record_count_lem s
+
+  placed : (i : ℕ) → i < length (numbers_in order s) → i < record_count s
+  placed i h = subst (λ (n : ℕ). i < n) numbers_count h
+
+  pub number_ends : (i : ℕ) → i < length (numbers_in order s) → 8 * i + 8 ≤ length s
+  number_ends i h = record_ends s i (placed i h)
+
+  pub number_is : (i : ℕ) → i < length (numbers_in order s) → number_at order s i ≡ get_or (numbers_in order s) i (pos 0)
+  number_is i h =
+      let g = placed i h in
+      sym (number_of (record_number order) (records_in s) i (subst (λ (n : ℕ). i < n) (sym (record_count_lem s)) g) ∙ ap (record_number order) (record_at s i g))

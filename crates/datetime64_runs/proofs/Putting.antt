@@ -1,4 +1,5 @@
 -- The pass that writes records, one more at a time.
+use Rattle.std.specs.Prelude.{Ok}
 use mathlib.Core.Path.{◌≡◌, refl, sym, ap, ◌∙◌}
 use mathlib.Core.List.{List, [], ◌∷◌, ◌++◌, append_assoc, append-nil}
 use Prim.Native.Nat.{ℕ, zero, suc, ◌+◌, ◌*◌, ◌≤◌, ◌<◌}
@@ -10,7 +11,6 @@ use lib.ListN.{length, take, drop, get_or, length-append}
 use lib.Seq.{take_all, take_at, drop-append-add, length-take-le, drop-drop}
 use Rattle.axis_types.specs.Reading.{offset_of}
 use Rattle.runs.specs.Run.{first_refused}
-use Rattle.runs.specs.declared.Check.{Check}
 use Rattle.datetime64_type.specs.declared.Datetime64Type.{Datetime64Type}
 use Rattle.datetime64_number.specs.Numbers.{write_number}
 use Rattle.datetime64_runs.specs.Records.{record_of}
@@ -35,14 +35,14 @@ module _ (type : Datetime64Type) where
 
 -- the first i records stand in now, which was room
 pub record Putting (type : Datetime64Type) (ts : List ℤ) (room now : List ℕ) (i : ℕ) : Type 0 where
-  pub all_written : first_refused (instant_refusal type) ts ≡ Check.AllRead
+  pub all_written : first_refused (instant_refusal type) ts ≡ Ok tt
   pub within : i ≤ length ts
   pub fits : 8 * length ts ≤ length room
   pub same_room : length now ≡ length room
   pub holds : now ≡ records_written type (take i ts) ++ drop (8 * i) room
 
 module _ {type : Datetime64Type} {ts : List ℤ} {room : List ℕ} where
-  pub putting_starts : 8 * length ts ≤ length room → first_refused (instant_refusal type) ts ≡ Check.AllRead → Putting type ts room room 0
+  pub putting_starts : 8 * length ts ≤ length room → first_refused (instant_refusal type) ts ≡ Ok tt → Putting type ts room room 0
   unfolding records_written
   putting_starts h e = record { all_written = e; within = omega arith; fits = h; same_room = refl; holds = refl }
 

@@ -7,6 +7,7 @@
 --   read-over           the instants that were read stand at the start of the destination
 --   read-then-written   bytes that were read are written again from their instants
 --   written-then-read   instants that were written are read again from their bytes
+use Rattle.std.specs.Prelude.{Result, Ok, Err}
 use mathlib.Core.Path.{◌≡◌, refl, sym, ap, ◌∙◌, subst}
 use mathlib.Core.Bool.{Bool, true, false≢true}
 use mathlib.Core.List.{List, [], ◌∷◌, ◌++◌, map}
@@ -20,12 +21,9 @@ use lib.Seq.{take_at, drop_at, length-take-le}
 use Rattle.refusal.specs.declared.Refusal.TheVariants.{Inexact}
 use Rattle.calendar.specs.declared.Calendar.TheVariants.{ProlepticGregorian}
 use Rattle.instant.specs.Instant.{in_range}
-use Rattle.axis_types.specs.Reading.{is_none, is_read, instant_of, offset_of, offset_refusal}
-use Rattle.axis_types.specs.declared.Reading.{Reading}
-use Rattle.axis_types.specs.declared.OffsetAnswer.{OffsetAnswer}
+use Rattle.axis_types.specs.Reading.{is_none, is_read, instant_of, offset_of, offset_refusal, Reading}
 use Rattle.run_ends.specs.Each.{Each}
 use Rattle.runs.specs.Run.{overlaid}
-use Rattle.runs.specs.declared.Check.{Check}
 use Rattle.runs.proofs.Passes.{each_read, each_checked}
 use Rattle.datetime64_type.specs.declared.Datetime64Type.{Datetime64Type}
 use Rattle.datetime64_number.specs.Numbers.{read_number, write_number}
@@ -37,25 +35,26 @@ use Rattle.datetime64_runs.proofs.Cuts.{record_count_lem}
 use Rattle.datetime64_runs.proofs.Putting.{written, written_length}
 use Rattle.datetime64_runs.proofs.Checks.{each_record, passed, each_instant, held}
 use Rattle.datetime64_runs.proofs.Back.{number_fits, record_is, record_back, number_back}
+use Rattle.refusal.specs.declared.Refusal.{Refusal}
 
-was_refused : (a : OffsetAnswer) → offset_refusal a ≡ some Inexact → a ≡ OffsetAnswer.Refused Inexact
-was_refused (OffsetAnswer.Is n) e = absurd (let k : ◌≡◌ {A = ℕ} 0 1 = cc in omega arith)
-was_refused (OffsetAnswer.Refused r) e = ap OffsetAnswer.Refused (let k : r ≡ Inexact = cc in k)
+was_refused : (a : Result ℤ Refusal) → offset_refusal a ≡ some Inexact → a ≡ Err Inexact
+was_refused (Ok n) e = absurd (let k : ◌≡◌ {A = ℕ} 0 1 = cc in omega arith)
+was_refused (Err r) e = ap Err (let k : r ≡ Inexact = cc in k)
 
 -- ---- one record
 module _ (t : Datetime64Type) where
-  pub written_reads : (x n : ℤ) → write_number t.unit x ≡ OffsetAnswer.Is n → read_record t (record_of t.order n) ≡ Reading.At x true
+  pub written_reads : (x n : ℤ) → write_number t.unit x ≡ Ok n → read_record t (record_of t.order n) ≡ Ok (x, true)
   written_reads x n e = ap (read_number t.unit) (number_back t.order n (Number.written_fits t.unit x n e)) ∙ Number.written_reads t.unit x n e
 
-  pub same_bytes : (r : List ℕ) (x : ℤ) (exact : Bool) → IsRecord r → read_record t r ≡ Reading.At x exact → (write_number t.unit x ≡ OffsetAnswer.Is (record_number t.order r)) × (record_of t.order (offset_of (write_number t.unit x)) ≡ r)
+  pub same_bytes : (r : List ℕ) (x : ℤ) (exact : Bool) → IsRecord r → read_record t r ≡ Ok (x, exact) → (write_number t.unit x ≡ Ok (record_number t.order r)) × (record_of t.order (offset_of (write_number t.unit x)) ≡ r)
   same_bytes r x exact h e =
       let w = Number.read_writes t.unit (record_number t.order r) x exact (number_fits t.order r h) e in
-      (w, ap (λ (a : OffsetAnswer). record_of t.order (offset_of a)) w ∙ record_back t.order r h)
+      (w, ap (λ (a : Result ℤ Refusal). record_of t.order (offset_of a)) w ∙ record_back t.order r h)
 
-  pub one_record : (r s : List ℕ) (x : ℤ) (i j : Bool) → IsRecord r → IsRecord s → read_record t r ≡ Reading.At x i → read_record t s ≡ Reading.At x j → r ≡ s
+  pub one_record : (r s : List ℕ) (x : ℤ) (i j : Bool) → IsRecord r → IsRecord s → read_record t r ≡ Ok (x, i) → read_record t s ≡ Ok (x, j) → r ≡ s
   one_record r s x i j h g e f = sym (same_bytes r x i h e).1 ∙ (same_bytes s x j g f).1
 
-  pub inexact_writing : (x : ℤ) → in_range ProlepticGregorian x ≡ true → (instant_refusal t x ≡ some Inexact) ↔ ((r : List ℕ) → IsRecord r → read_record t r ≡ Reading.At x true → ⊥)
+  pub inexact_writing : (x : ℤ) → in_range ProlepticGregorian x ≡ true → (instant_refusal t x ≡ some Inexact) ↔ ((r : List ℕ) → IsRecord r → read_record t r ≡ Ok (x, true) → ⊥)
   inexact_writing x i =
       let by = Number.inexact_writing t.unit x i in (
         (λ e r h f. by.0 (was_refused (write_number t.unit x) e) (record_number t.order r) (number_fits t.order r h) f),
@@ -103,8 +102,8 @@ module _ (t : Datetime64Type) where
   -- ---- read, then written
 
   record_again : (r : List ℕ) → IsRecord r → (a : Reading) → read_record t r ≡ a → is_read a ≡ true → Written (instant_of a) × (written t (instant_of a) ≡ r)
-  record_again r h (Reading.At x exact) e f = let w = same_bytes t r x exact h e in (ap (λ (a : OffsetAnswer). is_none (offset_refusal a)) w.0, w.1)
-  record_again r h (Reading.Refused q) e f = absurd (false≢true f)
+  record_again r h (Ok (x, exact)) e f = let w = same_bytes t r x exact h e in (ap (λ (a : Result ℤ Refusal). is_none (offset_refusal a)) w.0, w.1)
+  record_again r h (Err q) e f = absurd (false≢true f)
 
   records_again : (n : ℕ) (s : List ℕ) → length s ≡ 8 * n → Bytes s → Each Read (cut n s) → Each Written (map instant (cut n s)) × (records_written t (map instant (cut n s)) ≡ s)
   unfolding cut records_written
@@ -115,7 +114,7 @@ module _ (t : Datetime64Type) where
       let more = records_again n (drop 8 s) (length-drop 8 s ∙ omega arith) (dropped 8 s h) e.1 in
       ((one.0, more.0), (λ i. one.1 i ++ more.1 i) ∙ take-append-drop 8 s)
 
-  pub read_then_written : (s : List ℕ) (room room' : ℕ) → Bytes s → records_check t s room ≡ Check.AllRead → length s ≤ room' → (instants_check t (instants_in s) room' ≡ Check.AllRead) × (records_written t (instants_in s) ≡ s)
+  pub read_then_written : (s : List ℕ) (room room' : ℕ) → Bytes s → records_check t s room ≡ Ok tt → length s ≤ room' → (instants_check t (instants_in s) room' ≡ Ok tt) × (records_written t (instants_in s) ≡ s)
   read_then_written s room room' h e f =
       let p = passed t s room e in
       let again = records_again (record_count s) s (omega (arith, p.whole)) h (each_checked _ (records_in s) p.all_read) in
@@ -136,9 +135,9 @@ module _ (t : Datetime64Type) where
       let n : record_count (records_written t ts) ≡ length ts = omega arith in
       ap (λ (k : ℕ). cut k (records_written t ts)) n ∙ cut_again ts
 
-  instant_again : (x : ℤ) (a : OffsetAnswer) → write_number t.unit x ≡ a → is_none (offset_refusal a) ≡ true → read_record t (record_of t.order (offset_of a)) ≡ Reading.At x true
-  instant_again x (OffsetAnswer.Is n) e f = written_reads t x n e
-  instant_again x (OffsetAnswer.Refused r) e f = absurd (false≢true f)
+  instant_again : (x : ℤ) (a : Result ℤ Refusal) → write_number t.unit x ≡ a → is_none (offset_refusal a) ≡ true → read_record t (record_of t.order (offset_of a)) ≡ Ok (x, true)
+  instant_again x (Ok n) e f = written_reads t x n e
+  instant_again x (Err r) e f = absurd (false≢true f)
 
   instants_again : (ts : List ℤ) → Each Written ts → Each Read (map (written t) ts) × (map instant (map (written t) ts) ≡ ts)
   instants_again [] h = (tt, refl)
@@ -147,7 +146,7 @@ module _ (t : Datetime64Type) where
       let more = instants_again ts h.1 in
       ((ap is_read one, more.0), λ i. instant_of (one i) ∷ more.1 i)
 
-  pub written_then_read : (ts : List ℤ) (room room' : ℕ) → instants_check t ts room ≡ Check.AllRead → length ts ≤ room' → (records_check t (records_written t ts) room' ≡ Check.AllRead) × (instants_in (records_written t ts) ≡ ts)
+  pub written_then_read : (ts : List ℤ) (room room' : ℕ) → instants_check t ts room ≡ Ok tt → length ts ≤ room' → (records_check t (records_written t ts) room' ≡ Ok tt) × (instants_in (records_written t ts) ≡ ts)
   written_then_read ts room room' e f =
       let again = instants_again ts (each_checked _ ts (held t ts room e).all_written) in
       let s = records_written t ts in

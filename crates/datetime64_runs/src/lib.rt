@@ -2,6 +2,7 @@
 // what writes. A reader may rely on specs/Runs.antt and on the theorems of proofs/Theorems.antt.
 #![tactic(auto)]
 
+pub mod numbers;
 pub mod reading;
 pub mod records;
 pub mod writing;

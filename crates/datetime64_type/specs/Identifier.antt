@@ -1,6 +1,7 @@
 -- The identifier of a datetime64 array as grammar data: document 02, CR 1.
-use Rattle.std.specs.Prelude.{ℕ, List, [], ◌∷◌, ◌++◌}
-use Rattle.std.proofs.Math.Option.{Option, none, some}
+use Rattle.std.specs.Prelude.{ℕ, List, [], ◌∷◌, ◌++◌, Option as Answer}
+use Rattle.std.proofs.Math.Option.{Option}
+use Rattle.grammar.specs.Answers.{answer}
 use Rattle.grammar.specs.Grammar.{Class, Grammar, run, ◌▸◌, ◌or◌, give}
 use Rattle.grammar.specs.Rules.{◌⇒◌, bytes, range, char}
 use Rattle.word_table.specs.Table.{Row, row, lookup}
@@ -8,7 +9,6 @@ use Rattle.datetime64_type.specs.declared.ByteOrder.{ByteOrder}
 use Rattle.datetime64_type.specs.declared.UnitCode.{UnitCode}
 use Rattle.datetime64_type.specs.declared.UnitCode.TheVariants.{Year, Month, Week, Day, Hour, Minute, Second, Millisecond, Microsecond, Nanosecond, Picosecond, Femtosecond, Attosecond}
 use Rattle.datetime64_type.specs.declared.Datetime64Type.{Datetime64Type}
-use Rattle.datetime64_type.specs.declared.identifier.TypeAnswer.{TypeAnswer}
 
 -- the word of each unit, in the case in which it is listed
 abbrev pub unit_words : List (Row UnitCode)
@@ -44,6 +44,5 @@ abbrev pub identifier : Grammar Datetime64Type
 identifier = give type_of (byte_order ▸ char "M" ⇒ char "8" ⇒ char "[" ⇒ unit_word ▸ char "]")
 
 -- the answer to an identifier
-abbrev pub type_answer : Option Datetime64Type → TypeAnswer
-type_answer none = TypeAnswer.IllFormed
-type_answer (some t) = TypeAnswer.Is t
+abbrev pub type_answer : Option Datetime64Type → Answer Datetime64Type
+type_answer o = answer o

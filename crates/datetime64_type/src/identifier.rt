@@ -7,91 +7,55 @@ ghost use Rattle.datetime64_type.specs.Closed.{order_words, order_in, unit_in};
 
 use crate::{ByteOrder, Datetime64Type, UnitCode};
 use grammar::same_bytes;
-use word_table::packed_of;
-
-// The type that an identifier names.
-#[derive(Clone, Copy)]
-pub enum TypeAnswer {
-    Is(Datetime64Type),
-    IllFormed,
-}
 
 // The byte order that the first four bytes of an identifier name.
-#[derive(Clone, Copy)]
-pub enum OrderNamed {
-    Is(ByteOrder),
-    Unknown,
-}
-
-// The unit that a word names.
-#[derive(Clone, Copy)]
-pub enum UnitNamed {
-    Is(UnitCode),
-    Unknown,
-}
-
-fn order_of(word: &[u8]) -> OrderNamed
+fn order_of(word: &[u8]) -> Option<ByteOrder>
     ensures { lookup order_words word.now ≡ order_in result }
 {
     if same_bytes(word, b"<M8[") {
-        return OrderNamed::Is(ByteOrder::Little);
+        return Some(ByteOrder::Little);
     }
     if same_bytes(word, b">M8[") {
-        return OrderNamed::Is(ByteOrder::Big);
+        return Some(ByteOrder::Big);
     }
-    OrderNamed::Unknown
+    None
 }
 
-// A word is looked up as one number, two hexadecimal digits a letter. One that starts with the byte 0 has the number of a shorter one.
-fn unit_of(word: &[u8]) -> UnitNamed
-    requires { 1 ≤ length word.now }
+// The unit that a word names.
+fn unit_of(word: &[u8]) -> Option<UnitCode>
     ensures { lookup unit_words word.now ≡ unit_in result }
 {
-    if 8 < word.len() {
-        return UnitNamed::Unknown;
-    }
-    if word[0] == 0 {
-        return UnitNamed::Unknown;
-    }
-    let w = packed_of(word);
-    match w {
-        // Y, M, W, D
-        0x59 => UnitNamed::Is(UnitCode::Year),
-        0x4d => UnitNamed::Is(UnitCode::Month),
-        0x57 => UnitNamed::Is(UnitCode::Week),
-        0x44 => UnitNamed::Is(UnitCode::Day),
-        // h, m, s
-        0x68 => UnitNamed::Is(UnitCode::Hour),
-        0x6d => UnitNamed::Is(UnitCode::Minute),
-        0x73 => UnitNamed::Is(UnitCode::Second),
-        // ms, us, ns, ps, fs, as
-        0x6d73 => UnitNamed::Is(UnitCode::Millisecond),
-        0x7573 => UnitNamed::Is(UnitCode::Microsecond),
-        0x6e73 => UnitNamed::Is(UnitCode::Nanosecond),
-        0x7073 => UnitNamed::Is(UnitCode::Picosecond),
-        0x6673 => UnitNamed::Is(UnitCode::Femtosecond),
-        0x6173 => UnitNamed::Is(UnitCode::Attosecond),
-        _ => UnitNamed::Unknown,
+    match word {
+        b"Y" => Some(UnitCode::Year),
+        b"M" => Some(UnitCode::Month),
+        b"W" => Some(UnitCode::Week),
+        b"D" => Some(UnitCode::Day),
+        b"h" => Some(UnitCode::Hour),
+        b"m" => Some(UnitCode::Minute),
+        b"s" => Some(UnitCode::Second),
+        b"ms" => Some(UnitCode::Millisecond),
+        b"us" => Some(UnitCode::Microsecond),
+        b"ns" => Some(UnitCode::Nanosecond),
+        b"ps" => Some(UnitCode::Picosecond),
+        b"fs" => Some(UnitCode::Femtosecond),
+        b"as" => Some(UnitCode::Attosecond),
+        _ => None,
     }
 }
 
 // The type of an identifier: four bytes, the word of a unit, a bracket.
-pub fn type_of(text: &[u8]) -> TypeAnswer
+pub fn type_of(text: &[u8]) -> Option<Datetime64Type>
     ensures { result ≡ type_answer (read identifier text.now) }
 {
     let n = text.len();
     if n < 6 {
-        return TypeAnswer::IllFormed;
+        return None;
     }
-    let OrderNamed::Is(order) = order_of(&text[0..4]) else {
-        return TypeAnswer::IllFormed;
-    };
+    let order = order_of(&text[..4])?;
     let end = n - 1;
-    let UnitNamed::Is(unit) = unit_of(&text[4..end]) else {
-        return TypeAnswer::IllFormed;
-    };
-    if text[end] != 93 {
-        return TypeAnswer::IllFormed;
+    let unit = unit_of(&text[4..end])?;
+    if text[end] != b']' {
+        return None;
     }
-    TypeAnswer::Is(Datetime64Type { order, unit })
+    Some(Datetime64Type { order, unit })
 }

@@ -50,18 +50,18 @@ pub fn row_of(unit: UnitCode) -> UnitRow
     ensures { result ≡ unit_row_of unit }
 {
     match unit {
-        UnitCode::Year => return UnitRow::Steps(Part::Year),
-        UnitCode::Month => return UnitRow::Steps(Part::Month),
-        UnitCode::Week => return UnitRow::Multiple(604_800_000_000),
-        UnitCode::Day => return UnitRow::Multiple(86_400_000_000),
-        UnitCode::Hour => return UnitRow::Multiple(3_600_000_000),
-        UnitCode::Minute => return UnitRow::Multiple(60_000_000),
-        UnitCode::Second => return UnitRow::Multiple(1_000_000),
-        UnitCode::Millisecond => return UnitRow::Multiple(1_000),
-        UnitCode::Microsecond => return UnitRow::Multiple(1),
-        UnitCode::Nanosecond => return UnitRow::Fraction(1_000),
-        UnitCode::Picosecond => return UnitRow::Fraction(1_000_000),
-        UnitCode::Femtosecond => return UnitRow::Fraction(1_000_000_000),
-        UnitCode::Attosecond => return UnitRow::Fraction(1_000_000_000_000),
+        UnitCode::Year => UnitRow::Steps(Part::Year),
+        UnitCode::Month => UnitRow::Steps(Part::Month),
+        UnitCode::Week => UnitRow::Multiple(604_800_000_000),
+        UnitCode::Day => UnitRow::Multiple(86_400_000_000),
+        UnitCode::Hour => UnitRow::Multiple(3_600_000_000),
+        UnitCode::Minute => UnitRow::Multiple(60_000_000),
+        UnitCode::Second => UnitRow::Multiple(1_000_000),
+        UnitCode::Millisecond => UnitRow::Multiple(1_000),
+        UnitCode::Microsecond => UnitRow::Multiple(1),
+        UnitCode::Nanosecond => UnitRow::Fraction(1_000),
+        UnitCode::Picosecond => UnitRow::Fraction(1_000_000),
+        UnitCode::Femtosecond => UnitRow::Fraction(1_000_000_000),
+        UnitCode::Attosecond => UnitRow::Fraction(1_000_000_000_000),
     }
 }

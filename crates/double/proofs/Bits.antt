@@ -1,16 +1,16 @@
 -- From a double's bit pattern to its exact value: the fields that the code takes are the double's, and a finite one is ± significand * 2 ^ weight / 2 ^ 1074.
 use mathlib.Core.Path.{◌≡◌, sym, ap, ◌∙◌, subst}
-use mathlib.Core.Bool.{Bool, true, false, not, cond}
+use mathlib.Core.Bool.{Bool, true, false, false≢true, not, cond}
 use Prim.Native.Nat.{ℕ, zero, suc, ◌+◌, ◌*◌, ◌/◌, ◌%◌, ◌^◌, ◌<◌}
-use native.Mathlib.Nat.{mod-lt}
 use native.Mathlib.Omega.{arith}
 use lib.Dec.{T, eqb, not_T, eqb→eq}
-use lib.Pow.{field, pow_pos}
+use lib.Pow.{field}
 use lib.Ieee.{Float, nan, inf, fin, binary64, odd, fits, is_nan, of_fields, of_bits, to_bits, ne}
 use lib.Ieee.Bits.{of_bits-to_bits, cond_no}
 use lib.Ieee.Compare.{nan_differs}
 use lib.Ieee.Exact.{HasValue, odd_sign}
 use Rattle.double.specs.declared.Pattern.{Pattern}
+use Rattle.double.specs.Displacement.{IsNotFinite}
 use Rattle.double.specs.Fields.{pattern_of, significand, weight, field_size}
 
 -- what a pattern's fields stand for
@@ -30,6 +30,12 @@ unfolding is_nan
 no_nan nan h = absurd (subst T (sym nan_differs ∙ h) tt)
 no_nan (inf s) h = tt
 no_nan (fin s m e) h = tt
+
+pub nan_is_none : (x : Float) → true ≡ is_nan x → IsNotFinite x
+unfolding is_nan IsNotFinite
+nan_is_none nan h = tt
+nan_is_none (inf s) h = tt
+nan_is_none (fin s m e) h = absurd (false≢true (sym h))
 
 -- ---- the fields, as the code takes them
 abbrev pub sign_of : Float → Bool
@@ -58,9 +64,6 @@ module _ (x : Float) (p : Pattern) (is : p ≡ pattern_of x) where
 
   pub given_finite : (p.field ≡ 2047 → ⊥) → field_of x < 2047
   given_finite h = finite x (λ (e : field_of x ≡ 2047). h (given_field ∙ e))
-
-  pub given_short : p.digits < 2 ^ 52
-  given_short = subst (λ (k : Pattern). k.digits < 2 ^ 52) (sym is) (mod-lt (to_bits binary64 x) (pow_pos 52))
 
 module _ (x : Float) (F : T (fits binary64 x)) where
   pattern : x ≡ of_fields binary64 (sign_of x) (field_of x) (digits_of x)

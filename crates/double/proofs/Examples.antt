@@ -1,11 +1,11 @@
 -- Displacements and whole offsets by hand, computed from the definitions.
+use Rattle.std.specs.Prelude.{Ok, Err}
 use mathlib.Core.Path.{◌≡◌, refl}
 use mathlib.Core.Bool.{true, false}
 use Prim.Native.Nat.{◌*◌, ◌^◌}
 use lib.IntN.{pos, negsuc}
 use lib.Ieee.{fin}
 use Rattle.refusal.specs.declared.Refusal.TheVariants.{OutOfRange, Inexact}
-use Rattle.double.specs.declared.whole.Whole.TheVariants.{Is, Refused}
 use Rattle.double.specs.Nearest.{nearest_size, nearest_displacement, nearest_count}
 use Rattle.double.specs.Whole.{whole_of}
 
@@ -18,10 +18,10 @@ pub record Examples : Type 0 where
   -- the greatest double, in milliseconds
   pub greatest : nearest_size 1000 9007199254740991 (pos 971) ≡ 9007199254740991000 * 2 ^ 971
   -- -2.5, -0, -2 ^ 63 and 2 ^ 63 as whole offsets
-  pub fraction : whole_of (fin true 5 (negsuc 0)) ≡ Refused Inexact
-  pub minus_zero : whole_of (fin true 0 (pos 0)) ≡ Is (pos 0)
-  pub least : whole_of (fin true 1 (pos 63)) ≡ Is (negsuc 9223372036854775807)
-  pub past_greatest : whole_of (fin false 1 (pos 63)) ≡ Refused OutOfRange
+  pub fraction : whole_of (fin true 5 (negsuc 0)) ≡ Err Inexact
+  pub minus_zero : whole_of (fin true 0 (pos 0)) ≡ Ok (pos 0)
+  pub least : whole_of (fin true 1 (pos 63)) ≡ Ok (negsuc 9223372036854775807)
+  pub past_greatest : whole_of (fin false 1 (pos 63)) ≡ Err OutOfRange
 
 pub examples : Examples
 unfolding whole_of

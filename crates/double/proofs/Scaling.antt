@@ -9,9 +9,9 @@ use lib.Ieee.Nearest.{closest, closest_same}
 use Rattle.rounding.specs.declared.Rounded.{Rounded}
 use Rattle.rounding.specs.Rounding.{RoundedTo}
 use Rattle.rounding.proofs.Closest.{eqb_iff, below_half, below_half_exact, same_exact, at_least, at_most}
-use Rattle.rounding.proofs.Columns.{product_lt}
+use Rattle.rounding.proofs.Products.{product_lt}
 use Rattle.double.specs.declared.Scale.{Scale}
-use Rattle.double.specs.Displacement.{IsScale}
+use Rattle.double.specs.Scale.{IsScale}
 use Rattle.double.specs.Fields.{field_size}
 use Rattle.double.proofs.Significand.{leading_comm, size_lt, factor_zero, size_zero, zero_size}
 
@@ -19,7 +19,10 @@ use Rattle.double.proofs.Significand.{leading_comm, size_lt, factor_zero, size_z
 rounded_same : (r : Rounded) (a b c d : ℕ) → 0 < b → 0 < d → a * d ≡ c * b → RoundedTo r a b → RoundedTo r c d
 rounded_same r a b c d B D q v = record { nearest = v.nearest ∙ closest_same a b c d B D q; exactly = v.exactly ∙ same_exact a b c d B D q }
 
-module _ (scale : Scale) (S : IsScale scale) where
+module _ (scale : Scale) where
+  abbrev S : IsScale scale.micros scale.factor scale.shift
+  S = scale.is
+
   abbrev P : ℕ
   P = scale.micros
 

@@ -51,11 +51,12 @@ as_fraction P (fin t m e) s a d D v =
     record { m = m; e = e; is = ap (λ (b : Bool). fin b m e) v.0; size = closest_same (m * up e * P) (down e) (a * P) d (down_pos e) D q; exact = same_exact (m * up e * P) (down e) (a * P) d (down_pos e) D q }
 
 -- ---- by the pattern
-module _ (x : Float) (F : T (fits binary64 x)) (P : ℕ) where
+module _ (x : Float) (F : T (fits binary64 x)) where
   pub infinite : field_of x ≡ 2047 → IsNotFinite x
   unfolding IsNotFinite
   infinite e = not_finite x F IsNotFinite tt tt e
 
+module _ (x : Float) (F : T (fits binary64 x)) (P : ℕ) where
   pub small_field : IsSmall P x → field_of x < 2047
   unfolding IsSmall
   small_field h = finite x (λ (e : field_of x ≡ 2047). not_finite x F (λ (k : Float). IsSmall P k → ⊥) (λ g. g) (λ g. g) e h)

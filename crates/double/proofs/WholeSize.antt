@@ -1,4 +1,5 @@
 -- A double as a whole number: what `size_of` computes from the fields, and what `whole_of` answers for it.
+use Rattle.std.specs.Prelude.{Ok, Err}
 use mathlib.Core.Path.{◌≡◌, refl, sym, ap, ◌∙◌, subst}
 use mathlib.Core.Bool.{Bool, true, false, cond}
 use Prim.Native.Nat.{ℕ, zero, suc, ◌+◌, ◌-◌, ◌*◌, ◌/◌, ◌%◌, ◌^◌, ◌≤◌, ◌<◌}
@@ -15,34 +16,34 @@ use lib.Ieee.Nearest.{div_same}
 use borrow.Author.Tests.{lt-ltb, le-ltb, eq-eqb, ne_eqb}
 use Rattle.rounding.proofs.Closest.{eqb_iff}
 use Rattle.refusal.specs.declared.Refusal.TheVariants.{OutOfRange, Inexact, NotFinite}
-use Rattle.double.specs.declared.whole.Whole.TheVariants.{Is, Refused}
-use Rattle.double.specs.declared.whole.Size.TheVariants.{Of, Fraction, Large}
+use Rattle.refusal.specs.declared.Refusal.{Refusal}
 use Rattle.signed.specs.Sign.{with_sign}
 use Rattle.double.specs.Whole.{in64, whole_of}
+use Rattle.double.specs.Displacement.{IsNotFinite}
 use Rattle.double.specs.Fields.{SizeOf, WholeSize}
 use Rattle.double.proofs.Significand.{leading_comm, leading_lt, size_lt, size_zero, zero_size}
-use Rattle.double.proofs.Bits.{sign_of, field_of, digits_of, size_of, value, not_finite}
+use Rattle.double.proofs.Bits.{sign_of, field_of, digits_of, size_of, value}
 
 -- ---- numbers of 64 bits
-pub in64_yes : (z : ℤ) → mag z < 2 ^ 63 → Is z ≡ in64 z
-in64_yes z h = sym (ap (λ (b : Bool). cond b (Is z) (Refused OutOfRange)) (lt-ltb (mag z) (2 ^ 63) h))
+pub in64_yes : (z : ℤ) → mag z < 2 ^ 63 → Ok z ≡ in64 z
+in64_yes z h = sym (ap (λ (b : Bool). cond b (Ok z) (Err OutOfRange)) (lt-ltb (mag z) (2 ^ 63) h))
 
-pub in64_no : (z : ℤ) → 2 ^ 63 ≤ mag z → Refused OutOfRange ≡ in64 z
-in64_no z h = sym (ap (λ (b : Bool). cond b (Is z) (Refused OutOfRange)) (le-ltb (mag z) (2 ^ 63) h))
+pub in64_no : (z : ℤ) → 2 ^ 63 ≤ mag z → Err OutOfRange ≡ in64 z
+in64_no z h = sym (ap (λ (b : Bool). cond b (Ok z) (Err OutOfRange)) (le-ltb (mag z) (2 ^ 63) h))
 
 -- -n, as the code makes it
-pub negated_yes : (n : ℕ) → n ≤ 2 ^ 63 → Is (neg_ℤ (pos n)) ≡ in64 (neg_ℤ (pos n))
+pub negated_yes : (n : ℕ) → n ≤ 2 ^ 63 → Ok (neg_ℤ (pos n)) ≡ in64 (neg_ℤ (pos n))
 negated_yes zero h = refl
 negated_yes (suc n) h = in64_yes (negsuc n) (omega arith)
 
-pub negated_no : (n : ℕ) → 2 ^ 63 < n → Refused OutOfRange ≡ in64 (neg_ℤ (pos n))
+pub negated_no : (n : ℕ) → 2 ^ 63 < n → Err OutOfRange ≡ in64 (neg_ℤ (pos n))
 negated_no zero h = absurd (go h)
   where
     go : 2 ^ 63 < 0 → ⊥
     go h = omega arith
 negated_no (suc n) h = in64_no (negsuc n) (omega arith)
 
-large_no : (s : Bool) (n : ℕ) → 2 ^ 64 ≤ n → Refused OutOfRange ≡ in64 (with_sign s n)
+large_no : (s : Bool) (n : ℕ) → 2 ^ 64 ≤ n → Err OutOfRange ≡ in64 (with_sign s n)
 large_no true n h = negated_no n (omega arith)
 large_no false n h = in64_no (pos n) (omega arith)
 
@@ -60,39 +61,47 @@ same_mod : (a b c d : ℕ) → 0 < b → 0 < d → a * d ≡ c * b → eqb (a % 
 same_mod a b c d B D e = eqb_iff (a % b) 0 (c % d) 0 (mod_zero a b c d B e) (mod_zero c d a b D (sym e))
 
 -- the answer goes by any fraction that x is
-by_value : (x : Float) (s : Bool) (a d : ℕ) → 0 < d → HasValue x s a d → whole_of x ≡ cond (eqb (a % d) 0) (in64 (with_sign s (a / d))) (Refused Inexact)
+by_value : (x : Float) (s : Bool) (a d : ℕ) → 0 < d → HasValue x s a d → whole_of x ≡ cond (eqb (a % d) 0) (in64 (with_sign s (a / d))) (Err Inexact)
 unfolding whole_of
 by_value nan s a d D v = absurd v
 by_value (inf t) s a d D v = absurd v
 by_value (fin t m e) s a d D v =
-    (λ i. cond (same_mod (m * up e) (down e) a d (down_pos e) D v.1 i) (in64 (with_sign (v.0 i) (div_same (m * up e) (down e) a d (down_pos e) D v.1 i))) (Refused Inexact))
+    (λ i. cond (same_mod (m * up e) (down e) a d (down_pos e) D v.1 i) (in64 (with_sign (v.0 i) (div_same (m * up e) (down e) a d (down_pos e) D v.1 i))) (Err Inexact))
 
 -- ---- what `size_of` says, answered
 module _ (x : Float) (F : T (fits binary64 x)) where
-  by_size : field_of x < 2047 → whole_of x ≡ cond (eqb (size_of x % 2 ^ 1074) 0) (in64 (with_sign (sign_of x) (size_of x / 2 ^ 1074))) (Refused Inexact)
+  by_size : field_of x < 2047 → whole_of x ≡ cond (eqb (size_of x % 2 ^ 1074) 0) (in64 (with_sign (sign_of x) (size_of x / 2 ^ 1074))) (Err Inexact)
   by_size h = by_value x (sign_of x) (size_of x) (2 ^ 1074) (pow_pos 1074) (value x F h)
 
   nothing_over : field_of x < 2047 → size_of x % 2 ^ 1074 ≡ 0 → whole_of x ≡ in64 (with_sign (sign_of x) (size_of x / 2 ^ 1074))
-  nothing_over h z = by_size h ∙ ap (λ (b : Bool). cond b (in64 (with_sign (sign_of x) (size_of x / 2 ^ 1074))) (Refused Inexact)) (eq-eqb (size_of x % 2 ^ 1074) 0 z)
+  nothing_over h z = by_size h ∙ ap (λ (b : Bool). cond b (in64 (with_sign (sign_of x) (size_of x / 2 ^ 1074))) (Err Inexact)) (eq-eqb (size_of x % 2 ^ 1074) 0 z)
 
-  pub when_whole : field_of x < 2047 → (n : ℕ) → WholeSize (Of n) (field_of x) (digits_of x) → in64 (with_sign (sign_of x) n) ≡ whole_of x
+  pub when_whole : field_of x < 2047 → (n : ℕ) → WholeSize (Ok n) (field_of x) (digits_of x) → in64 (with_sign (sign_of x) n) ≡ whole_of x
   unfolding SizeOf
   when_whole h n v =
       sym
       (nothing_over h (ap (λ (k : ℕ). k % 2 ^ 1074) (sym v) ∙ mul-mod_left n (2 ^ 1074))
       ∙ ap (λ (k : ℕ). in64 (with_sign (sign_of x) k)) (ap (λ (k : ℕ). k / 2 ^ 1074) (sym v) ∙ mul-div_cancel n (pow_pos 1074)))
 
-  pub when_fraction : field_of x < 2047 → WholeSize Fraction (field_of x) (digits_of x) → Refused Inexact ≡ whole_of x
+  when_fraction : field_of x < 2047 → WholeSize (Err Inexact) (field_of x) (digits_of x) → Err Inexact ≡ whole_of x
   unfolding SizeOf
-  when_fraction h v = sym (by_size h ∙ ap (λ (b : Bool). cond b (in64 (with_sign (sign_of x) (size_of x / 2 ^ 1074))) (Refused Inexact)) (ne_eqb (size_of x % 2 ^ 1074) 0 v))
+  when_fraction h v = sym (by_size h ∙ ap (λ (b : Bool). cond b (in64 (with_sign (sign_of x) (size_of x / 2 ^ 1074))) (Err Inexact)) (ne_eqb (size_of x % 2 ^ 1074) 0 v))
 
-  pub when_large : field_of x < 2047 → WholeSize Large (field_of x) (digits_of x) → Refused OutOfRange ≡ whole_of x
+  when_large : field_of x < 2047 → WholeSize (Err OutOfRange) (field_of x) (digits_of x) → Err OutOfRange ≡ whole_of x
   unfolding SizeOf
   when_large h v = large_no (sign_of x) (size_of x / 2 ^ 1074) v.0 ∙ sym (nothing_over h v.1)
 
-  pub when_infinite : field_of x ≡ 2047 → Refused NotFinite ≡ whole_of x
-  unfolding whole_of
-  when_infinite e = not_finite x F (λ (k : Float). Refused NotFinite ≡ whole_of k) refl refl e
+  pub when_refused : field_of x < 2047 → (r : Refusal) → WholeSize (Err r) (field_of x) (digits_of x) → Err r ≡ whole_of x
+  unfolding SizeOf
+  when_refused h Inexact v = when_fraction h v
+  when_refused h OutOfRange v = when_large h v
+  when_refused h r v = absurd v
+
+pub when_infinite : (x : Float) → IsNotFinite x → Err NotFinite ≡ whole_of x
+unfolding whole_of IsNotFinite
+when_infinite nan v = refl
+when_infinite (inf s) v = refl
+when_infinite (fin s m e) v = absurd v
 
 -- ---- what `size_of` computes
 none : {A : Type 0} (n : ℕ) → suc n ≤ 0 → A
@@ -101,7 +110,7 @@ none n h = absurd (go h)
     go : suc n ≤ 0 → ⊥
     go h = omega arith
 
-pub large : (field t : ℕ) → 1087 ≤ field → WholeSize Large field t
+pub large : (field t : ℕ) → 1087 ≤ field → WholeSize (Err OutOfRange) field t
 unfolding SizeOf
 large zero t h = none 1086 h
 large (suc j) t h =
@@ -119,18 +128,18 @@ large (suc j) t h =
     far : (j : ℕ) → 1087 ≤ suc j → 12 ≤ j - 1074
     far j h = omega arith
 
-pub no_size : (field t : ℕ) → field + t ≡ 0 → WholeSize (Of 0) field t
+pub no_size : (field t : ℕ) → field + t ≡ 0 → WholeSize (Ok 0) field t
 unfolding SizeOf
 no_size field t e = sym (size_zero field t e)
 
-pub under_one : (field t : ℕ) → field < 1023 → t < 2 ^ 52 → (field + t ≡ 0 → ⊥) → WholeSize Fraction field t
+pub under_one : (field t : ℕ) → field < 1023 → t < 2 ^ 52 → (field + t ≡ 0 → ⊥) → WholeSize (Err Inexact) field t
 unfolding SizeOf
 under_one field t h k n z = n (zero_size field t (sym (mod-eq_of_lt (size_lt field t 1021 k (less field h))) ∙ z))
   where
     less : (field : ℕ) → field < 1023 → field ≤ 1022
     less field h = omega arith
 
-pub shifted_up : (field t : ℕ) → 1075 < field → field < 1087 → t < 2 ^ 52 → WholeSize (Of ((t + 2 ^ 52) * 2 ^ (field - 1075) % 2 ^ 64)) field t
+pub shifted_up : (field t : ℕ) → 1075 < field → field < 1087 → t < 2 ^ 52 → WholeSize (Ok ((t + 2 ^ 52) * 2 ^ (field - 1075) % 2 ^ 64)) field t
 unfolding SizeOf
 shifted_up zero t h k l = none 1075 h
 shifted_up (suc j) t h k l =
@@ -151,7 +160,7 @@ back_is t k l = mod-eq_of_lt (lt_of_le_of_lt (div-mul-le_self (t + 2 ^ 52) (2 ^ 
 sums : (j : ℕ) → suc j ≤ 1075 → 1075 - suc j + j ≡ 1074
 sums j h = omega arith
 
-pub shifted_down : (field t : ℕ) → 1 ≤ field → field ≤ 1075 → t < 2 ^ 52 → (t + 2 ^ 52) / 2 ^ (1075 - field) * 2 ^ (1075 - field) % 2 ^ 64 ≡ t + 2 ^ 52 → WholeSize (Of ((t + 2 ^ 52) / 2 ^ (1075 - field))) field t
+pub shifted_down : (field t : ℕ) → 1 ≤ field → field ≤ 1075 → t < 2 ^ 52 → (t + 2 ^ 52) / 2 ^ (1075 - field) * 2 ^ (1075 - field) % 2 ^ 64 ≡ t + 2 ^ 52 → WholeSize (Ok ((t + 2 ^ 52) / 2 ^ (1075 - field))) field t
 unfolding SizeOf
 shifted_down zero t h k l e = none 0 h
 shifted_down (suc j) t h k l e =
@@ -161,7 +170,7 @@ shifted_down (suc j) t h k l e =
     ∙ sym (mul_assoc (q / 2 ^ s) (2 ^ s) (2 ^ j))
     ∙ ap (λ (n : ℕ). n * 2 ^ j) (sym (back_is t s l) ∙ e ∙ leading_comm t)
 
-pub left_over : (field t : ℕ) → 1 ≤ field → field ≤ 1075 → t < 2 ^ 52 → ((t + 2 ^ 52) / 2 ^ (1075 - field) * 2 ^ (1075 - field) % 2 ^ 64 ≡ t + 2 ^ 52 → ⊥) → WholeSize Fraction field t
+pub left_over : (field t : ℕ) → 1 ≤ field → field ≤ 1075 → t < 2 ^ 52 → ((t + 2 ^ 52) / 2 ^ (1075 - field) * 2 ^ (1075 - field) % 2 ^ 64 ≡ t + 2 ^ 52 → ⊥) → WholeSize (Err Inexact) field t
 unfolding SizeOf
 left_over zero t h k l n z = none 0 h
 left_over (suc j) t h k l n z =

@@ -1,13 +1,12 @@
 -- The nearest displacement of a double on an axis whose period has P microseconds, as crate `double` answers it. specs/Nearest.antt has its meaning.
-use Rattle.std.specs.Prelude.{◌≡◌, ℕ, ◌*◌, ◌^◌, ◌≤◌, ◌<◌, Float}
+use Rattle.std.specs.Prelude.{◌≡◌, ℕ, ◌^◌, ◌≤◌, ◌<◌, Float, Result, Ok, Err}
 use Rattle.std.specs.Int.Signed.{mag}
 use Rattle.std.specs.Float.{nan, inf, fin}
 use Rattle.std.specs.Float.Ieee.{down}
 use Rattle.rounding.specs.Rounding.{is_exact}
-use Rattle.double.specs.declared.Scale.{Scale}
 use Rattle.double.specs.declared.Displacement.{Displacement}
-use Rattle.double.specs.declared.DisplacementAnswer.{DisplacementAnswer}
-use Rattle.double.specs.declared.DisplacementAnswer.TheVariants.{Is, Large, NotFinite}
+use Rattle.refusal.specs.declared.Refusal.{Refusal}
+use Rattle.refusal.specs.declared.Refusal.TheVariants.{OutOfRange, NotFinite}
 use Rattle.double.specs.Nearest.{exact_size, nearest_size, nearest_displacement}
 
 -- d is the nearest displacement of the finite double x, exact where nothing was rounded
@@ -34,14 +33,9 @@ IsNotFinite nan = Unit {0}
 IsNotFinite (inf s) = Unit {0}
 IsNotFinite (fin s m e) = ⊥
 
-abbrev pub DisplacementAnswerOf : DisplacementAnswer → ℕ → Float → Type 0
-DisplacementAnswerOf (Is d) P x = DisplacementOf d P x × (mag d.count ≤ 2 ^ 62)
-DisplacementAnswerOf Large P x = IsLarge P x
-DisplacementAnswerOf NotFinite P x = IsNotFinite x
-
--- a period of `micros` microseconds as factor / 2 ^ shift
-pub record IsScale (s : Scale) : Type 0 where
-  pub is : s.factor ≡ s.micros * 2 ^ s.shift
-  pub least : 2 ^ 62 ≤ s.factor
-  pub most : s.factor < 2 ^ 63
-  pub few : s.shift < 63
+-- the answer: no finite number, or large, or the displacement
+abbrev pub DisplacementAnswerOf : Result Displacement Refusal → ℕ → Float → Type 0
+DisplacementAnswerOf (Ok d) P x = DisplacementOf d P x × (mag d.count ≤ 2 ^ 62)
+DisplacementAnswerOf (Err OutOfRange) P x = IsLarge P x
+DisplacementAnswerOf (Err NotFinite) P x = IsNotFinite x
+DisplacementAnswerOf (Err r) P x = ⊥

@@ -1,5 +1,6 @@
 -- Closed forms that only inner functions compute: the fields of a double's bit pattern, and a finite double's size from the exponent's field and the digits t below the leading one.
-use Rattle.std.specs.Prelude.{◌≡◌, ℕ, zero, suc, ◌+◌, ◌*◌, ◌/◌, ◌%◌, ◌^◌, ◌≤◌, leb, Float}
+use Rattle.std.specs.Prelude.{◌≡◌, ℕ, zero, suc, ◌+◌, ◌*◌, ◌/◌, ◌%◌, ◌^◌, ◌≤◌, ◌<◌, leb, Float, Result, Ok, Err}
+use Rattle.std.proofs.Common.{mod-lt, pow_pos}
 use Rattle.std.specs.Float.{binary64}
 use Rattle.std.specs.Float.Ieee.{to_bits}
 use Rattle.std.specs.Float.Ieee.Nearest.{closest}
@@ -8,11 +9,17 @@ use Rattle.rounding.specs.Rounding.{is_exact}
 use Rattle.signed.specs.Sign.{with_sign}
 use Rattle.double.specs.declared.Displacement.{Displacement}
 use Rattle.double.specs.declared.Pattern.{Pattern}
-use Rattle.double.specs.declared.whole.Size.{Size}
-use Rattle.double.specs.declared.whole.Size.TheVariants.{Of, Fraction, Large}
+use Rattle.refusal.specs.declared.Refusal.{Refusal}
+use Rattle.refusal.specs.declared.Refusal.TheVariants.{OutOfRange, Inexact, NotFinite}
+use Rattle.double.specs.Displacement.{IsNotFinite}
 
 abbrev pub pattern_of : Float → Pattern
-pattern_of x = record { negative = leb (2 ^ 63) (to_bits binary64 x); field = to_bits binary64 x / 2 ^ 52 % 2048; digits = to_bits binary64 x % 2 ^ 52 }
+pattern_of x = record { negative = leb (2 ^ 63) (to_bits binary64 x); field = to_bits binary64 x / 2 ^ 52 % 2048; digits = to_bits binary64 x % 2 ^ 52; short = mod-lt (to_bits binary64 x) {m = 2 ^ 52} (pow_pos 52) }
+
+-- the pattern of a finite double, or that x is none
+abbrev pub FinitePattern : Result Pattern Refusal → Float → Type 0
+FinitePattern (Ok p) x = (p ≡ pattern_of x) × (p.field < 2047)
+FinitePattern (Err r) x = (r ≡ NotFinite) × IsNotFinite x
 
 -- the significand, with its leading one, and its weight: the size is significand * 2 ^ weight / 2 ^ 1074
 abbrev pub significand : ℕ → ℕ → ℕ
@@ -33,10 +40,11 @@ pub record PatternDisplacement (d : Displacement) (p : Pattern) (P : ℕ) : Type
   pub small : mag d.count ≤ 2 ^ 62
 
 -- r is the fraction a / d where it is whole, and else says that it is none, or large
-unfoldable pub SizeOf : Size → ℕ → ℕ → Type 0
-SizeOf (Of n) a d = n * d ≡ a
-SizeOf Fraction a d = a % d ≡ 0 → ⊥
-SizeOf Large a d = (2 ^ 64 ≤ a / d) × (a % d ≡ 0)
+unfoldable pub SizeOf : Result ℕ Refusal → ℕ → ℕ → Type 0
+SizeOf (Ok n) a d = n * d ≡ a
+SizeOf (Err Inexact) a d = a % d ≡ 0 → ⊥
+SizeOf (Err OutOfRange) a d = (2 ^ 64 ≤ a / d) × (a % d ≡ 0)
+SizeOf (Err r) a d = ⊥
 
-abbrev pub WholeSize : Size → ℕ → ℕ → Type 0
+abbrev pub WholeSize : Result ℕ Refusal → ℕ → ℕ → Type 0
 WholeSize r field t = SizeOf r (field_size field t) (2 ^ 1074)

@@ -1,3 +1,4 @@
+pub mod Scale
 pub mod Nearest
 pub mod Displacement
 pub mod Whole

@@ -1,83 +1,61 @@
 // A double as a whole 64-bit offset, for calendar mode. A reader may rely on `whole_of` of specs/Whole.antt.
-ghost use Rattle.std.specs.Prelude.{◌≡◌, ◌<◌, ◌^◌};
+ghost use Rattle.std.specs.Prelude.{◌≡◌, ◌<◌};
 ghost use Rattle.signed.specs.Sign.{with_sign};
 ghost use Rattle.double.specs.Whole.{whole_of, in64};
 ghost use Rattle.double.specs.Fields.{WholeSize};
 
+use crate::Pattern;
 use refusal::Refusal;
 
-// The whole number, or why there is none.
-#[derive(Clone, Copy)]
-pub enum Whole {
-    Is(i64),
-    Refused(Refusal),
-}
+// 0 among the numbers with their bias.
+const ZERO: u64 = 1 << 63;
 
-// The size of a finite double: a whole number, a fraction, or a whole number of 2^64 or more.
-#[derive(Clone, Copy)]
-pub enum Size {
-    Of(u64),
-    Fraction,
-    Large,
-}
-
-// The size by the fields of the pattern.
-fn size_of(field: u64, digits: u64) -> Size
-    requires { (field < 2047) × (digits < 2 ^ 52) }
-    ensures { WholeSize result field digits }
+// The size of a finite double; Inexact for a fraction, and OutOfRange for a whole number of 2^64 or more.
+fn size_of(p: Pattern) -> Result<u64, Refusal>
+    requires { p.field < 2047 }
+    ensures { WholeSize result p.field p.digits }
 {
-    if 1087 <= field {
-        return Size::Large;
+    if 1087 <= p.field {
+        return Err(Refusal::OutOfRange);
     }
-    if field < 1023 {
-        if field + digits == 0 {
-            return Size::Of(0);
+    if p.field < 1023 {
+        if p.field + p.digits == 0 {
+            return Ok(0);
         }
-        return Size::Fraction;
+        return Err(Refusal::Inexact);
     }
-    let q = digits + 0x10_0000_0000_0000;
-    if 1075 < field {
-        return Size::Of(q << (field - 1075));
+    let q = p.digits + 0x10_0000_0000_0000;
+    if 1075 < p.field {
+        return Ok(q << (p.field - 1075));
     }
-    let n = q >> (1075 - field);
-    if n << (1075 - field) == q {
-        Size::Of(n)
+    let n = q >> (1075 - p.field);
+    if n << (1075 - p.field) == q {
+        Ok(n)
     } else {
-        Size::Fraction
+        Err(Refusal::Inexact)
     }
 }
 
 // A size with its sign, where it fits.
-fn with_sign(n: u64, negative: bool) -> Whole
+fn with_sign(n: u64, negative: bool) -> Result<i64, Refusal>
     ensures { result ≡ in64 (with_sign negative n) }
 {
     if negative {
-        if n <= 0x8000_0000_0000_0000 {
-            Whole::Is(signed::unbiased(0x8000_0000_0000_0000 - n))
+        if n <= ZERO {
+            Ok(signed::unbiased(ZERO - n))
         } else {
-            Whole::Refused(Refusal::OutOfRange)
+            Err(Refusal::OutOfRange)
         }
-    } else if n < 0x8000_0000_0000_0000 {
-        Whole::Is(n as i64)
+    } else if n < ZERO {
+        Ok(n as i64)
     } else {
-        Whole::Refused(Refusal::OutOfRange)
+        Err(Refusal::OutOfRange)
     }
 }
 
-pub fn whole_of(x: f64) -> Whole
+pub fn whole_of(x: f64) -> Result<i64, Refusal>
     ensures { result ≡ whole_of x }
 {
-    if x != x {
-        return Whole::Refused(Refusal::NotFinite);
-    }
-    let p = crate::pattern_of(x);
-    if p.field == 2047 {
-        return Whole::Refused(Refusal::NotFinite);
-    }
-    let size = size_of(p.field, p.digits);
-    match size {
-        Size::Of(n) => with_sign(n, p.negative),
-        Size::Fraction => Whole::Refused(Refusal::Inexact),
-        Size::Large => Whole::Refused(Refusal::OutOfRange),
-    }
+    let p = Pattern::of_finite(x)?;
+    with_sign(size_of(p)?, p.negative)
 }

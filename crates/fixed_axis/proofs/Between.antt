@@ -1,4 +1,5 @@
 -- An offset between two that are read is read: instants follow the order of offsets, and the range is an interval.
+use Rattle.std.specs.Prelude.{Ok}
 use mathlib.Core.Path.{◌≡◌, refl, sym, ap, ◌∙◌}
 use mathlib.Core.Bool.{Bool, true, false, false≢true}
 use Prim.Native.Nat.{ℕ, suc, ◌*◌}
@@ -13,7 +14,6 @@ use Rattle.signed.proofs.Integers.{mono, neg_le, neg_le_pos}
 use Rattle.calendar.specs.declared.Calendar.{Calendar}
 use Rattle.axis_types.specs.Lengths.{length_of}
 use Rattle.axis_types.specs.declared.Period.{Period}
-use Rattle.axis_types.specs.declared.Reading.{Reading}
 use Rattle.instant.specs.Instant.{in_range}
 use Rattle.instant.proofs.Range.{between}
 use Rattle.double.specs.Nearest.{distance, nearest_count}
@@ -42,7 +42,7 @@ module _ (c : Calendar) (p : Period) (R : ℤ) where
   pub time_mono : (m n : ℤ) → le_z m n ≡ true → le_z (time_after p R m) (time_after p R n) ≡ true
   time_mono m n h = is_true _ (mono R (m *ℤ pos (length_of p)) (n *ℤ pos (length_of p)) (times_mono m n (length_of p) h))
 
-  pub whole_between : (x y z a b : ℤ) (i j : Bool) → le_z x y ≡ true → le_z y z ≡ true → read_whole c p R x ≡ Reading.At a i → read_whole c p R z ≡ Reading.At b j → read_whole c p R y ≡ Reading.At (time_after p R y) true
+  pub whole_between : (x y z a b : ℤ) (i j : Bool) → le_z x y ≡ true → le_z y z ≡ true → read_whole c p R x ≡ Ok (a, i) → read_whole c p R z ≡ Ok (b, j) → read_whole c p R y ≡ Ok (time_after p R y, true)
   whole_between x y z a b i j h g p' q' =
       let r = read_of c p R x a i p' in
       let s = read_of c p R z b j q' in
@@ -50,7 +50,7 @@ module _ (c : Calendar) (p : Period) (R : ℤ) where
       (between c (time_after p R x) (time_after p R y) (time_after p R z) (time_mono x y h) (time_mono y z g) (ap (in_range c) r.is ∙ r.inside) (ap (in_range c) s.is ∙ s.inside))
       refl
 
-  pub double_between : (x y z : Float) (a b : ℤ) (i j : Bool) → T (le x y) → T (le y z) → read_double c p R x ≡ Reading.At a i → read_double c p R z ≡ Reading.At b j → (t : ℤ) × (k : Bool) × (read_double c p R y ≡ Reading.At t k)
+  pub double_between : (x y z : Float) (a b : ℤ) (i j : Bool) → T (le x y) → T (le y z) → read_double c p R x ≡ Ok (a, i) → read_double c p R z ≡ Ok (b, j) → (t : ℤ) × (k : Bool) × (read_double c p R y ≡ Ok (t, k))
   unfolding read_double le lt eq
   double_between nan y z a b i j h g f q = absurd (not_read NotFinite a i f)
   double_between (inf s) y z a b i j h g f q = absurd (not_read NotFinite a i f)

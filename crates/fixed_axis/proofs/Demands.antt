@@ -17,6 +17,8 @@
 --   one-offset       two offsets never read as the same instant
 --   only-past        a whole offset is refused for nothing but its instant
 -- proofs/Between.antt: an offset between two that are read is read.
+use Rattle.axis_types.specs.Reading.{Reading}
+use Rattle.std.specs.Prelude.{Ok, Err}
 use mathlib.Core.Path.{◌≡◌, refl, sym, ap, ◌∙◌, subst}
 use mathlib.Core.Bool.{Bool, true, false, cond}
 use Prim.Native.Nat.{ℕ, ◌*◌, ◌≤◌}
@@ -36,8 +38,6 @@ use Rattle.calendar.proofs.Theorems.{next_date}
 use Rattle.axis_types.specs.Lengths.{length_of}
 use Rattle.axis_types.specs.declared.Period.{Period}
 use Rattle.axis_types.specs.declared.Period.TheVariants.{Day}
-use Rattle.axis_types.specs.declared.Reading.{Reading}
-use Rattle.axis_types.specs.declared.OffsetAnswer.{OffsetAnswer}
 use Rattle.instant.specs.Instant.{day_of, time_of, in_range}
 use Rattle.double.specs.Nearest.{distance, IsNearest, nearest_size, nearest_count}
 use Rattle.double.proofs.Distance.{count_nearest, count_only, count_half, count_exact}
@@ -50,7 +50,7 @@ use Rattle.fixed_axis.proofs.Offsets as Offsets
 use Rattle.fixed_axis.proofs.Doubles.{double_of}
 use Rattle.fixed_axis.proofs.Between.{is_true}
 
-refused : (b : Bool) (z : ℤ) (exact : Bool) → cond b (Reading.At z exact) (Reading.Refused OutOfRange) ≡ Reading.Refused OutOfRange → b ≡ false
+refused : (b : Bool) (z : ℤ) (exact : Bool) → cond {A = Reading} b (Ok (z, exact)) (Err OutOfRange) ≡ Err OutOfRange → b ≡ false
 refused true z exact h = absurd (let k : ◌≡◌ {A = ℕ} 0 1 = cc in omega arith)
 refused false z exact h = refl
 
@@ -59,7 +59,7 @@ module _ (c : Calendar) (p : Period) (R : ℤ) where
   P = length_of p
 
   -- ---- doubles
-  pub read_right : (s : Bool) (m : ℕ) (e z : ℤ) (exact : Bool) → read_double c p R (fin s m e) ≡ Reading.At z exact → Demand3 c p R s m e z exact
+  pub read_right : (s : Bool) (m : ℕ) (e z : ℤ) (exact : Bool) → read_double c p R (fin s m e) ≡ Ok (z, exact) → Demand3 c p R s m e z exact
   read_right s m e z exact h =
       let r = double_of c p R s m e z exact h in
       record {
@@ -69,7 +69,7 @@ module _ (c : Calendar) (p : Period) (R : ℤ) where
         inside = r.inside;
       }
 
-  pub double_inside : (x : Float) (z : ℤ) (exact : Bool) → read_double c p R x ≡ Reading.At z exact → in_range c z ≡ true
+  pub double_inside : (x : Float) (z : ℤ) (exact : Bool) → read_double c p R x ≡ Ok (z, exact) → in_range c z ≡ true
   unfolding read_double
   double_inside nan z exact h = absurd (not_read NotFinite z exact h)
   double_inside (inf s) z exact h = absurd (not_read NotFinite z exact h)
@@ -85,17 +85,17 @@ module _ (c : Calendar) (p : Period) (R : ℤ) where
   unfolding read_double
   outcome s m e z n = ap (marked_at c p R s m e) (sym (count_only R P s m e z n))
 
-  pub refused_past : (s : Bool) (m : ℕ) (e z : ℤ) → IsNearest R P s m e z → read_double c p R (fin s m e) ≡ Reading.Refused OutOfRange → in_years (date_of c (day_of z)).year ≡ false
+  pub refused_past : (s : Bool) (m : ℕ) (e z : ℤ) → IsNearest R P s m e z → read_double c p R (fin s m e) ≡ Err OutOfRange → in_years (date_of c (day_of z)).year ≡ false
   refused_past s m e z n g = refused (in_range c z) z (eqb (distance R P s m e z) 0) (sym (outcome s m e z n) ∙ g)
 
-  pub past_refused : (s : Bool) (m : ℕ) (e z : ℤ) → IsNearest R P s m e z → in_years (date_of c (day_of z)).year ≡ false → read_double c p R (fin s m e) ≡ Reading.Refused OutOfRange
+  pub past_refused : (s : Bool) (m : ℕ) (e z : ℤ) → IsNearest R P s m e z → in_years (date_of c (day_of z)).year ≡ false → read_double c p R (fin s m e) ≡ Err OutOfRange
   past_refused s m e z n g = outcome s m e z n ∙ sym (settled c z (eqb (distance R P s m e z) 0) g)
 
-  pub not_finite : (read_double c p R nan ≡ Reading.Refused NotFinite) × ((s : Bool) → read_double c p R (inf s) ≡ Reading.Refused NotFinite)
+  pub not_finite : (read_double c p R nan ≡ Err NotFinite) × ((s : Bool) → read_double c p R (inf s) ≡ Err NotFinite)
   unfolding read_double
   not_finite = (refl, λ s. refl)
 
-  pub read_mono : (x y : Float) (a b : ℤ) (i j : Bool) → T (le x y) → read_double c p R x ≡ Reading.At a i → read_double c p R y ≡ Reading.At b j → le_z a b ≡ true
+  pub read_mono : (x y : Float) (a b : ℤ) (i j : Bool) → T (le x y) → read_double c p R x ≡ Ok (a, i) → read_double c p R y ≡ Ok (b, j) → le_z a b ≡ true
   unfolding read_double
   read_mono nan y a b i j h f g = absurd (not_read NotFinite a i f)
   read_mono (inf s) y a b i j h f g = absurd (not_read NotFinite a i f)
@@ -105,7 +105,7 @@ module _ (c : Calendar) (p : Period) (R : ℤ) where
       (λ k. le_z (sym (double_of c p R s m e a i f).is k) (sym (double_of c p R t n d b j g).is k))
       ∙ is_true (le_z (nearest_count R P s m e) (nearest_count R P t n d)) (count_mono R P s m e t n d h)
 
-  pub read_ordered : (x y : Float) (a b : ℤ) (i j : Bool) → T (le x y) → read_double c p R x ≡ Reading.At a i → read_double c p R y ≡ Reading.At b j → InOrder c a b
+  pub read_ordered : (x y : Float) (a b : ℤ) (i j : Bool) → T (le x y) → read_double c p R x ≡ Ok (a, i) → read_double c p R y ≡ Ok (b, j) → InOrder c a b
   read_ordered x y a b i j h f g = in_order c a b (read_mono x y a b i j h f g)
 
   pub minus_zero : (e : ℤ) → read_double c p R (fin true 0 e) ≡ read_double c p R (fin false 0 e)
@@ -115,40 +115,40 @@ module _ (c : Calendar) (p : Period) (R : ℤ) where
       λ i. reading_at c (R +ℤ (ap (λ (x : ℕ). neg_ℤ (pos x)) n ∙ sym (ap pos n)) i) ((sym (count_exact R P true 0 e) ∙ count_exact R P false 0 e) i)
 
   -- ---- writing
-  pub written_reads : (t n : ℤ) → in_range c t ≡ true → write_instant p R t ≡ OffsetAnswer.Is n → read_whole c p R n ≡ Reading.At t true
+  pub written_reads : (t n : ℤ) → in_range c t ≡ true → write_instant p R t ≡ Ok n → read_whole c p R n ≡ Ok (t, true)
   written_reads = Offsets.written_reads c p R
 
-  pub written_fits : (t n : ℤ) → in_range c R ≡ true → in_range c t ≡ true → write_instant p R t ≡ OffsetAnswer.Is n → SFits w64 n
+  pub written_fits : (t n : ℤ) → in_range c R ≡ true → in_range c t ≡ true → write_instant p R t ≡ Ok n → SFits w64 n
   written_fits = Offsets.written_fits c p R
 
-  pub read_writes : (n t : ℤ) (exact : Bool) → read_whole c p R n ≡ Reading.At t exact → write_instant p R t ≡ OffsetAnswer.Is n
+  pub read_writes : (n t : ℤ) (exact : Bool) → read_whole c p R n ≡ Ok (t, exact) → write_instant p R t ≡ Ok n
   read_writes = Offsets.read_writes c p R
 
-  pub inexact_none : (t : ℤ) → write_instant p R t ≡ OffsetAnswer.Refused Inexact → (n : ℤ) (exact : Bool) → read_whole c p R n ≡ Reading.At t exact → ⊥
+  pub inexact_none : (t : ℤ) → write_instant p R t ≡ Err Inexact → (n : ℤ) (exact : Bool) → read_whole c p R n ≡ Ok (t, exact) → ⊥
   inexact_none t h n exact g = let e = read_writes n t exact g in let k : ◌≡◌ {A = ℕ} 0 1 = cc in omega arith
 
-  pub none_inexact : (t : ℤ) → in_range c R ≡ true → in_range c t ≡ true → ((n : ℤ) → SFits w64 n → read_whole c p R n ≡ Reading.At t true → ⊥) → write_instant p R t ≡ OffsetAnswer.Refused Inexact
+  pub none_inexact : (t : ℤ) → in_range c R ≡ true → in_range c t ≡ true → ((n : ℤ) → SFits w64 n → read_whole c p R n ≡ Ok (t, true) → ⊥) → write_instant p R t ≡ Err Inexact
   none_inexact t h g f = Offsets.inexact (t -ℤ R) P (λ n e. f n (written_fits t n h g e) (written_reads t n g e))
 
-  pub one_offset : (n m t : ℤ) (i j : Bool) → read_whole c p R n ≡ Reading.At t i → read_whole c p R m ≡ Reading.At t j → n ≡ m
+  pub one_offset : (n m t : ℤ) (i j : Bool) → read_whole c p R n ≡ Ok (t, i) → read_whole c p R m ≡ Ok (t, j) → n ≡ m
   one_offset n m t i j f g = let e = read_writes n t i f in let d = read_writes m t j g in cc
 
-  pub only_past : (n : ℤ) (r : Refusal) → read_whole c p R n ≡ Reading.Refused r → r ≡ OutOfRange
+  pub only_past : (n : ℤ) (r : Refusal) → read_whole c p R n ≡ Err r → r ≡ OutOfRange
   unfolding read_whole
   only_past n r = go (in_range c (time_after p R n))
     where
-      go : (b : Bool) → cond b (Reading.At (time_after p R n) true) (Reading.Refused OutOfRange) ≡ Reading.Refused r → r ≡ OutOfRange
+      go : (b : Bool) → cond {A = Reading} b (Ok (time_after p R n, true)) (Err OutOfRange) ≡ Err r → r ≡ OutOfRange
       go true h = absurd (let k : ◌≡◌ {A = ℕ} 0 1 = cc in omega arith)
       go false h = (cc)
 
 -- ---- days, by the next-day rule
-module _ (c : Calendar) (R n t : ℤ) (exact : Bool) (h : read_whole c Day R n ≡ Reading.At t exact) where
+module _ (c : Calendar) (R n t : ℤ) (exact : Bool) (h : read_whole c Day R n ≡ Ok (t, exact)) where
   pub days_on : (date_of c (day_of t) ≡ date_of c (day_of R +ℤ n)) × (time_of t ≡ time_of R)
   days_on =
       let r = Offsets.read_of c Day R n t exact h in
       (ap (λ (z : ℤ). date_of c (day_of z)) (sym r.is) ∙ ap (date_of c) (day_after_lem R n), ap time_of (sym r.is) ∙ time_after_lem R n)
 
-pub day_on : (c : Calendar) (R n t u : ℤ) (i j : Bool) → read_whole c Day R n ≡ Reading.At t i → read_whole c Day R (suc_ℤ n) ≡ Reading.At u j → date_of c (day_of u) ≡ next c (date_of c (day_of t))
+pub day_on : (c : Calendar) (R n t u : ℤ) (i j : Bool) → read_whole c Day R n ≡ Ok (t, i) → read_whole c Day R (suc_ℤ n) ≡ Ok (u, j) → date_of c (day_of u) ≡ next c (date_of c (day_of t))
 day_on c R n t u i j f g =
     (days_on c R (suc_ℤ n) u j g).0
     ∙ (ap (date_of c) (+ℤ-suc_ℤ (day_of R) n) ∙ (sym (next_date c (day_of R +ℤ n)) ∙ ap (next c) (sym (days_on c R n t i f).0)))

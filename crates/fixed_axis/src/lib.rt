@@ -6,39 +6,31 @@ ghost use Rattle.std.specs.Prelude.{◌≡◌, true, ◌+◌, ◌-◌, ◌*◌, 
 ghost use Rattle.std.specs.Int.Signed.{mag};
 ghost use Rattle.axis_types.specs.Lengths.{length_of};
 ghost use Rattle.axis_types.specs.Reading.{is_read};
-ghost use Rattle.axis_types.specs.declared.Reading.{Reading};
 ghost use Rattle.instant.specs.Instant.{in_range};
-ghost use Rattle.double.specs.Displacement.{IsScale};
 ghost use Rattle.fixed_axis.specs.Fixed.{time_after, reading_at, read_whole, read_double, write_instant};
 ghost use Rattle.fixed_axis.specs.Closed.{Reaches};
 
-use axis_types::{OffsetAnswer, Period, Reading};
+use axis_types::Period;
 use calendar::Calendar;
-use double::{DisplacementAnswer, Scale};
+use double::Scale;
 use refusal::Refusal;
-
-// The instant of a double, and whether it is the exact time.
-#[derive(Clone, Copy)]
-pub struct NearestTime {
-    pub instant: i64,
-    pub exact: bool,
-}
 
 // A period as a factor of doubles.
 pub fn scale_of(p: Period) -> Scale
-    ensures { (result.micros ≡ length_of p) × IsScale result }
+    ensures { result.micros ≡ length_of p }
 {
-    double::scale_of(axis_types::microseconds(p))
+    Scale::new(axis_types::microseconds(p))
 }
 
 // The count t where it lies in the range.
-fn reading_at(c: Calendar, t: i64, exact: bool) -> Reading
+fn reading_at(c: Calendar, t: i64, exact: bool) -> Result<(i64, bool), Refusal>
     ensures { result ≡ reading_at c t exact }
 {
     if instant::in_range(c, t) {
-        return Reading::At(t, exact);
+        Ok((t, exact))
+    } else {
+        Err(Refusal::OutOfRange)
     }
-    return Reading::Refused(Refusal::OutOfRange);
 }
 
 // Whether n periods may lead from one instant of the range to another: true only up to 2^61 microseconds, and false only from 2^60 on, which
@@ -46,13 +38,7 @@ fn reading_at(c: Calendar, t: i64, exact: bool) -> Reading
 fn reaches(p: Period, n: i64) -> bool
     ensures { Reaches result (length_of p) n }
 {
-    let s = scale_of(p);
-    let most = 1u64 << (s.shift - 2);
-    let k = signed::biased(n);
-    if k < 0x8000_0000_0000_0000 - most {
-        return false;
-    }
-    return k < 0x8000_0000_0000_0000 + most;
+    n.unsigned_abs() < 1 << (scale_of(p).shift - 2)
 }
 
 // The time of a whole offset.
@@ -63,15 +49,19 @@ fn time_at(p: Period, reference: i64, n: i64) -> i64
     reference + n * (axis_types::microseconds(p) as i64)
 }
 
+// That the reference lies in the range is a clause of the four below and no type's fact: docs/PROMISES.md promises them of any calendar,
+// period and reference.
+
 // A whole offset; OutOfRange for the instant.
-pub fn read_whole(c: Calendar, p: Period, reference: i64, n: i64) -> Reading
+pub fn read_whole(c: Calendar, p: Period, reference: i64, n: i64) -> Result<(i64, bool), Refusal>
     requires { in_range c reference ≡ true }
     ensures { result ≡ read_whole c p reference n }
 {
     if reaches(p, n) {
-        return reading_at(c, time_at(p, reference, n), true);
+        reading_at(c, time_at(p, reference, n), true)
+    } else {
+        Err(Refusal::OutOfRange)
     }
-    return Reading::Refused(Refusal::OutOfRange);
 }
 
 // The instant of a whole offset that is known to be read: no test is left.
@@ -84,49 +74,34 @@ pub fn time_after(c: Calendar, p: Period, reference: i64, n: i64) -> i64
 }
 
 // A double; NotFinite, then OutOfRange for the nearest count.
-pub fn read_double(c: Calendar, p: Period, reference: i64, x: f64) -> Reading
+pub fn read_double(c: Calendar, p: Period, reference: i64, x: f64) -> Result<(i64, bool), Refusal>
     requires { in_range c reference ≡ true }
     ensures { result ≡ read_double c p reference x }
 {
-    let a = double::displacement_of(scale_of(p), x);
-    match a {
-        DisplacementAnswer::NotFinite => return Reading::Refused(Refusal::NotFinite),
-        DisplacementAnswer::Large => return Reading::Refused(Refusal::OutOfRange),
-        DisplacementAnswer::Is(d) => return reading_at(c, reference + d.count, d.exact),
-    }
+    let d = double::displacement_of(scale_of(p), x)?;
+    reading_at(c, reference + d.count, d.exact)
 }
 
 // The instant of a double that is known to be read, and whether it is the exact time: the range is not tested again. The scale is that of the period.
-pub fn nearest_time(c: Calendar, p: Period, reference: i64, scale: Scale, x: f64) -> NearestTime
+pub fn nearest_time(c: Calendar, p: Period, reference: i64, scale: Scale, x: f64) -> (i64, bool)
     requires begun { in_range c reference ≡ true }
-    requires scaled { (scale.micros ≡ length_of p) × IsScale scale }
+    requires scaled { scale.micros ≡ length_of p }
     requires read { is_read (read_double c p reference x) ≡ true }
-    ensures { read_double c p reference x ≡ Reading.At result.instant result.exact }
+    ensures { read_double c p reference x ≡ Ok result }
 {
     let d = double::small_displacement(scale, x);
-    NearestTime {
-        instant: reference + d.count,
-        exact: d.exact,
-    }
-}
-
-// How far two numbers lie apart.
-fn distance(r: u64, k: u64) -> u64
-    ensures { result ≡ (k - r) + (r - k) }
-{
-    if k < r { r - k } else { k - r }
+    (reference + d.count, d.exact)
 }
 
 // The whole offset that leads from the reference to an instant; Inexact where there is none. One division serves both signs.
-pub fn write_instant(p: Period, reference: i64, t: i64) -> OffsetAnswer
+pub fn write_instant(p: Period, reference: i64, t: i64) -> Result<i64, Refusal>
     ensures { result ≡ write_instant p reference t }
 {
     let micros = axis_types::microseconds(p);
-    let from = signed::biased(reference);
-    let to = signed::biased(t);
-    let size = distance(from, to);
+    let size = t.abs_diff(reference);
     if size % micros == 0 {
-        return OffsetAnswer::Is(signed::signed_size(to < from, size / micros));
+        Ok(signed::signed_size(t < reference, size / micros))
+    } else {
+        Err(Refusal::Inexact)
     }
-    return OffsetAnswer::Refused(Refusal::Inexact);
 }

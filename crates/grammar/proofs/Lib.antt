@@ -5,3 +5,4 @@ pub mod Places
 pub mod Numerals
 pub mod Steps
 pub mod Same
+pub mod Answers

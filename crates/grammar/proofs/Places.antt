@@ -1,14 +1,16 @@
 -- What stands at a place of a text, from what the code tests there: one byte, and a run of bytes.
 use Prim.Native.Nat.{ℕ, zero, suc, ◌+◌, ◌-◌, ◌≤◌, ◌<◌}
 use native.Mathlib.Omega.{arith}
-use native.Mathlib.Numerals.{add-one}
 use mathlib.Core.Path.{◌≡◌, refl, sym, ap, ◌∙◌}
-use mathlib.Core.Bool.{Bool, true, false, ◌&&◌, ◌||◌}
+use mathlib.Core.Bool.{Bool, true, false, ◌&&◌, ◌||◌, or-false}
 use mathlib.Core.List.{List, [], ◌∷◌}
-use lib.Dec.{leb}
+use lib.Dec.{leb, eqb}
 use lib.ListN.{length, get_or, take, drop, drop_of_length-le, length-drop, length-append}
 use lib.Seq.{drop-cons, drop-drop, take-append_seam, drop-append_seam}
-use borrow.Author.Tests.{le-leb, lt-leb, leb-true}
+use borrow.Author.Tests.{le-leb, lt-leb, leb-true, eqb-true, eqb-false}
+use Rattle.std.specs.Prelude.{nat_eq}
+use Rattle.std.specs.List.{list_any, take_while}
+use Rattle.std.proofs.lemmas.List.Sums.{take_while-cons}
 use Rattle.grammar.specs.Grammar.{Class, inside, within, every, starts}
 use Rattle.grammar.specs.Reader.{front, back}
 use Rattle.grammar.specs.Rules.{span, any_of}
@@ -41,6 +43,14 @@ pub span_in : (lo hi b : ℕ) → lo ≤ b → b ≤ hi → within (span lo hi) 
 unfolding within inside
 span_in lo hi b p q = rw (le-leb lo b p, le-leb b hi q)
 
+-- the two tests of the code
+pub span_is : (lo hi b : ℕ) → within (span lo hi) b ≡ (leb lo b && leb b hi)
+unfolding within inside
+span_is lo hi b = or-false (leb lo b && leb b hi)
+
+pub next_is : (lo hi : ℕ) (s : List ℕ) (at : ℕ) → at < length s → starts (span lo hi) (drop at s) ≡ (leb lo (get_or s at 0) && leb (get_or s at 0) hi)
+next_is lo hi s at h = starts_at (span lo hi) s at h ∙ span_is lo hi (get_or s at 0)
+
 pub span_below : (lo hi b : ℕ) → b < lo → within (span lo hi) b ≡ false
 unfolding within inside
 span_below lo hi b p = rw (lt-leb lo b p)
@@ -66,44 +76,26 @@ span_at lo hi (b ∷ s) (suc i) e h = span_at lo hi s i (and_parts (within (span
 
 -- ---- a byte and a set
 
-point_is : (k b : ℕ) → k ≡ b → inside (record { lo = k; hi = k }) b ≡ true
+point : (k b : ℕ) → inside (record { lo = k; hi = k }) b ≡ nat_eq k b
 unfolding inside
-point_is k b e = rw (e, le-leb b b (omega arith))
+point k b = go (eqb k b) refl
+  where
+    go : (t : Bool) → eqb k b ≡ t → (leb k b && leb b k) ≡ t
+    go true e = let h = eqb-true k b e in rw (le-leb k b (omega arith), le-leb b k (omega arith))
+    go false e = so_not _ (λ q. let h = and_parts (leb k b) (leb b k) q in eqb-false k b e (omega (arith, leb-true k b h.0, leb-true b k h.1)))
 
-point_not : (k b : ℕ) → (k ≡ b → ⊥) → inside (record { lo = k; hi = k }) b ≡ false
-unfolding inside
-point_not k b n = so_not _ (λ e. let h = and_parts (leb k b) (leb b k) e in n (omega (arith, leb-true k b h.0, leb-true b k h.1)))
-
-pub set_hit : (set : List ℕ) (i b : ℕ) → i < length set → get_or set i 0 ≡ b → within (any_of (drop i set)) b ≡ true
+-- the library's search of the set
+pub set_any : (set : List ℕ) (b : ℕ) → within (any_of set) b ≡ list_any (λ y. nat_eq y b) set
 unfolding within
-set_hit set i b h e = rw (drop-cons set i 0 h, point_is (get_or set i 0) b e)
+set_any [] b = refl
+set_any (k ∷ set) b = rw (point k b, set_any set b)
 
-pub set_next : (set : List ℕ) (i b : ℕ) → i < length set → (get_or set i 0 ≡ b → ⊥) → within (any_of (drop i set)) b ≡ within (any_of (drop (i + 1) set)) b
-unfolding within
-set_next set i b h e = rw (add-one, drop-cons set i 0 h, point_not (get_or set i 0) b e)
+-- ---- a run, as the library takes it
 
-pub set_end : (set : List ℕ) (i b : ℕ) → length set ≤ i → within (any_of (drop i set)) b ≡ false
-unfolding within
-set_end set i b h = rw (drop_of_length-le set h)
-
--- ---- a run: how far it goes from one place and from the next
-
-front_none : (c : Class) (x : List ℕ) → starts c x ≡ false → front c x ≡ []
-unfolding starts front
-front_none c [] e = refl
-front_none c (b ∷ x) e = rw e
-
-front_more : (c : Class) (s : List ℕ) (at : ℕ) → starts c (drop at s) ≡ true → front c (drop at s) ≡ get_or s at 0 ∷ front c (drop (at + 1) s)
+pub front_while : (lo hi : ℕ) (x : List ℕ) → front (span lo hi) x ≡ take_while (λ b. leb lo b && leb b hi) x
 unfolding front
-front_more c s at e =
-    let h = starts_lt c s at e in
-    rw (add-one, drop-cons s at 0 h) (rw (starts_within c s at e))
-
-pub run_step : (c : Class) (s : List ℕ) (at : ℕ) → starts c (drop at s) ≡ true → at + length (front c (drop at s)) ≡ at + 1 + length (front c (drop (at + 1) s))
-run_step c s at e = rw (front_more c s at e) (omega arith)
-
-pub run_stop : (c : Class) (s : List ℕ) (at : ℕ) → starts c (drop at s) ≡ false → at + length (front c (drop at s)) ≡ at
-run_stop c s at e = rw (front_none c (drop at s) e) (omega arith)
+front_while lo hi [] = refl
+front_while lo hi (b ∷ x) = rw (span_is lo hi b, front_while lo hi x, take_while-cons {X = ℕ})
 
 -- ---- a run from `at` that was found to end at `e`: it is in the text, it is the part between, and what is left starts at `e`
 

@@ -1,14 +1,12 @@
 -- Whether two texts are the same, byte by byte.
-use Prim.Native.Nat.{ℕ, ◌+◌, ◌≤◌, ◌<◌}
+use Prim.Native.Nat.{ℕ}
 use native.Mathlib.Omega.{arith}
-use native.Mathlib.Numerals.{add-one}
 use mathlib.Core.Path.{◌≡◌, refl, ap₂}
 use mathlib.Core.Bool.{true, false}
 use mathlib.Core.List.{List, [], ◌∷◌}
 use lib.Dec.{eqb}
-use lib.ListN.{length, get_or, drop, drop_of_length-le}
-use lib.Seq.{drop-cons}
-use borrow.Author.Tests.{eq-eqb, ne_eqb, eqb-true}
+use lib.ListN.{length}
+use borrow.Author.Tests.{eq-eqb, eqb-true}
 use Rattle.grammar.specs.Rules.{same}
 use Rattle.grammar.proofs.Tests.{clash, and_parts, and_no}
 
@@ -29,12 +27,3 @@ same_length_no [] [] n = absurd (n refl)
 same_length_no [] (y ∷ b) n = refl
 same_length_no (x ∷ a) [] n = refl
 same_length_no (x ∷ a) (y ∷ b) n = and_no (eqb x y) (same_length_no a b (λ e. n (omega arith)))
-
-pub same_more : (a b : List ℕ) (i : ℕ) → i < length a → i < length b → get_or a i 0 ≡ get_or b i 0 → same (drop i a) (drop i b) ≡ same (drop (i + 1) a) (drop (i + 1) b)
-same_more a b i h k e = rw (add-one, drop-cons a i 0 h, drop-cons b i 0 k) (rw (eq-eqb (get_or a i 0) (get_or b i 0) e))
-
-pub same_differ : (a b : List ℕ) (i : ℕ) → i < length a → i < length b → (get_or a i 0 ≡ get_or b i 0 → ⊥) → same (drop i a) (drop i b) ≡ false
-same_differ a b i h k n = rw (drop-cons a i 0 h, drop-cons b i 0 k) (rw (ne_eqb (get_or a i 0) (get_or b i 0) n))
-
-pub same_end : (a b : List ℕ) (i : ℕ) → length a ≤ i → length b ≤ i → same (drop i a) (drop i b) ≡ true
-same_end a b i h k = rw (drop_of_length-le a h, drop_of_length-le b k)

@@ -4,7 +4,7 @@ use Prim.Native.Nat.{ℕ, suc, ◌+◌, ◌-◌, ◌*◌, ◌≤◌, ◌<◌}
 use native.Mathlib.Omega.{arith}
 use native.Mathlib.Numerals.{add-one}
 use mathlib.Core.Path.{◌≡◌, refl, ap, ◌∙◌}
-use mathlib.Core.Bool.{true, false, cond}
+use mathlib.Core.Bool.{true, false, cond, ◌||◌}
 use mathlib.Core.List.{List, [], ◌∷◌}
 use mathlib.Core.Option.{Option, none, some}
 use lib.ListN.{length, get_or, drop, drop_of_length-le}
@@ -13,7 +13,6 @@ use borrow.Author.Tests.{le-leb, lt-leb}
 use Rattle.grammar.specs.Grammar.{Class, starts, Grammar, one, run, ◌▸◌, ◌or◌, maybe, give}
 use Rattle.grammar.specs.Reader.{Scan, found, nothing, front, back, valued, paired, given, nullable, first, scan, whole, read}
 use Rattle.grammar.specs.Rules.{◌⇒◌, span, digit, decimal, number, two, either, spelled}
-use Rattle.grammar.proofs.Tests.{or_left}
 use Rattle.grammar.proofs.Classes.{starts_append, starts_every, front_every}
 use Rattle.grammar.proofs.Places.{starts_lt, starts_within, span_parts}
 
@@ -137,11 +136,12 @@ number_is hi x h l = run_all digit _ x (some (decimal 0 (front digit x))) h (rw 
 pub digit_here : (s : List ℕ) (at : ℕ) → starts digit (drop at s) ≡ true → (48 ≤ get_or s at 0) × (get_or s at 0 ≤ 57)
 digit_here s at e = span_parts 48 57 (get_or s at 0) (starts_within digit s at e)
 
-pub two_is : (s : List ℕ) (at v : ℕ) → starts digit (drop at s) ≡ true → starts digit (drop (at + 1) s) ≡ true → v ≡ (get_or s at 0 - 48) * 10 + (get_or s (at + 1) 0 - 48) → scan two (drop at s) ≡ found v (drop (at + 1 + 1) s)
+pub two_is : (s : List ℕ) (at v : ℕ) → starts digit (drop at s) ≡ true → starts digit (drop (at + 1) s) ≡ true → v ≡ (get_or s at 0 - 48) * 10 + (get_or s (at + 1) 0 - 48) → scan two (drop at s) ≡ found v (drop (at + 2) s)
 unfolding scan
 two_is s at v e f q =
     let r : v ≡ decimal 0 (get_or s at 0 ∷ get_or s (at + 1) 0 ∷ []) = omega arith in
-    rw (one_at digit s at e, one_at digit s (at + 1) f, r)
+    let n : at + 2 ≡ at + 1 + 1 = omega arith in
+    rw (one_at digit s at e, one_at digit s (at + 1) f, r, n)
 
 pub two_no : (s : List ℕ) (at : ℕ) → starts digit (drop at s) ≡ false → scan two (drop at s) ≡ nothing
 unfolding scan
@@ -153,11 +153,8 @@ two_half s at e f = rw (one_at digit s at e, one_no digit (drop (at + 1) s) f)
 
 -- ---- letters and words
 
-pub either_yes : (b : ℕ) (x : List ℕ) → starts (span b b) x ≡ true → starts (either b) x ≡ true
-either_yes b x e = starts_append (span b b) (span (b + 32) (b + 32)) x ∙ or_left _ e
-
-pub either_else : (b : ℕ) (x : List ℕ) → starts (span b b) x ≡ false → starts (either b) x ≡ starts (span (b + 32) (b + 32)) x
-either_else b x e = starts_append (span b b) (span (b + 32) (b + 32)) x ∙ rw e
+pub either_is : (b : ℕ) (x : List ℕ) → starts (either b) x ≡ (starts (span b b) x || starts (span (b + 32) (b + 32)) x)
+either_is b x = starts_append (span b b) (span (b + 32) (b + 32)) x
 
 pub word_more : (w s : List ℕ) (i at : ℕ) → i < length w → starts (either (get_or w i 0)) (drop at s) ≡ true → scan (spelled (drop i w)) (drop at s) ≡ scan (spelled (drop (i + 1) w)) (drop (at + 1) s)
 word_more w s i at h e = rw (add-one i, drop-cons w i 0 h) (after (either (get_or w i 0)) (spelled (drop (suc i) w)) s at e)

@@ -4,76 +4,44 @@
 // the grammar's reader finds the same: an equation with `scan` of the rule.
 #![tactic(auto)]
 
-ghost use Rattle.std.specs.Prelude.{◌≡◌, true, ◌+◌, ◌≤◌, ◌<◌, ◌^◌, length, drop};
+ghost use Rattle.std.specs.Prelude.{◌≡◌, true, ◌&&◌, nat_le, ◌+◌, ◌-◌, ◌≤◌, ◌<◌, ◌^◌, length, drop};
+ghost use Rattle.std.specs.List.{take_while};
 ghost use Rattle.grammar.specs.Grammar.{starts, every};
 ghost use Rattle.grammar.specs.Reader.{front, scan};
 ghost use Rattle.grammar.specs.Rules.{span, any_of, digit, decimal, number, two, either, spelled, same};
 ghost use Rattle.grammar.specs.Answers.{number_in, end_in};
 
-// A number and the place after it.
-#[derive(Clone, Copy)]
-pub enum NumberAt {
-    Found(u32, usize),
-    Nothing,
-}
-
-// The place after a text that has no value of its own.
-#[derive(Clone, Copy)]
-pub enum EndAt {
-    Found(usize),
-    Nothing,
-}
-
 // Whether the byte at a place is one from lo to hi.
 pub fn next_in(s: &[u8], at: usize, lo: u8, hi: u8) -> bool
     ensures { result ≡ starts (span lo hi) (drop at s.now) }
 {
-    if s.len() <= at {
-        return false;
-    }
-    let b = s[at];
-    if b < lo {
-        return false;
-    }
-    if hi < b {
-        return false;
-    }
-    true
+    at < s.len() && (lo..=hi).contains(&s[at])
 }
 
 // Whether the byte at a place is one of a set.
 pub fn starts_in(s: &[u8], at: usize, set: &[u8]) -> bool
     ensures { result ≡ starts (any_of set.now) (drop at s.now) }
 {
-    if s.len() <= at {
-        return false;
-    }
-    let b = s[at];
-    let mut i = 0;
-    while i < set.len() {
-        if set[i] == b {
-            return true;
-        }
-        i += 1;
-    }
-    false
+    at < s.len() && set.contains(&s[at])
+}
+
+// How many bytes from lo to hi stand at a place.
+fn run_len(s: &[u8], at: usize, lo: u8, hi: u8) -> usize
+    ensures value { result ≡ length (take_while (λ b. nat_le lo b && nat_le b hi) (drop at s.now)) }
+    ensures in_text { result ≤ length s.now - at }
+{
+    s.iter()
+        .skip(at)
+        .take_while(|b| (lo..=hi).contains(*b))
+        .count()
 }
 
 // Where the bytes from lo to hi that stand at a place end.
+#[tactic(auto, using(crate::proofs::Places::front_while))]
 pub fn run_end(s: &[u8], at: usize, lo: u8, hi: u8) -> usize
     ensures { result ≡ at + length (front (span lo hi) (drop at s.now)) }
 {
-    let mut i = at;
-    while next_in(s, i, lo, hi) {
-        i += 1;
-    }
-    i
-}
-
-fn wide(b: u8) -> u32
-    ensures { result ≡ b }
-{
-    b as u32
+    at + run_len(s, at, lo, hi)
 }
 
 // The number that up to six digits write.
@@ -83,45 +51,39 @@ pub fn decimal_of(d: &[u8]) -> u32
     ensures value { result ≡ decimal 0 d.now }
     ensures upper_bound { result < 10 ^ length d.now }
 {
-    let mut v: u32 = 0;
-    let mut i = 0;
-    while i < d.len() {
-        let b = wide(d[i]);
-        v = v * 10 + (b - 48);
-        i += 1;
+    let mut v = 0;
+    for &b in d {
+        v = v * 10 + u32::from(b - b'0');
     }
     v
 }
 
 // A number of at most hi digits.
-pub fn number_at(s: &[u8], at: usize, hi: usize) -> NumberAt
+pub fn number_at(s: &[u8], at: usize, hi: usize) -> Option<(u32, usize)>
     requires { hi ≤ 6 }
     ensures { scan (number hi) (drop at s.now) ≡ number_in s.now result }
 {
-    let e = run_end(s, at, 48, 57);
+    let e = run_end(s, at, b'0', b'9');
     if e <= at {
-        return NumberAt::Nothing;
+        return None;
     }
     let d = &s[at..e];
     if hi < d.len() {
-        return NumberAt::Nothing;
+        return None;
     }
-    NumberAt::Found(decimal_of(d), e)
+    Some((decimal_of(d), e))
 }
 
 // Exactly two digits.
-pub fn two_digits(s: &[u8], at: usize) -> NumberAt
+pub fn two_digits(s: &[u8], at: usize) -> Option<(u32, usize)>
     ensures { scan two (drop at s.now) ≡ number_in s.now result }
 {
-    if next_in(s, at, 48, 57) {
-        let b = at + 1;
-        if next_in(s, b, 48, 57) {
-            let tens = wide(s[at]) - 48;
-            let ones = wide(s[b]) - 48;
-            return NumberAt::Found(tens * 10 + ones, b + 1);
-        }
+    if next_in(s, at, b'0', b'9') && next_in(s, at + 1, b'0', b'9') {
+        let tens = u32::from(s[at] - b'0');
+        let ones = u32::from(s[at + 1] - b'0');
+        return Some((tens * 10 + ones, at + 2));
     }
-    NumberAt::Nothing
+    None
 }
 
 // Whether a letter, given as a capital, stands at a place in either case.
@@ -129,44 +91,28 @@ pub fn letter_at(s: &[u8], at: usize, capital: u8) -> bool
     requires { capital < 128 }
     ensures { result ≡ starts (either capital) (drop at s.now) }
 {
-    if next_in(s, at, capital, capital) {
-        return true;
-    }
     let small = capital + 32;
-    next_in(s, at, small, small)
+    next_in(s, at, capital, capital) || next_in(s, at, small, small)
 }
 
 // A word, given in capitals, in any mix of cases.
-pub fn word_at(s: &[u8], at: usize, w: &[u8]) -> EndAt
+pub fn word_at(s: &[u8], at: usize, w: &[u8]) -> Option<usize>
     requires { every (span 65 90) w.now ≡ true }
     ensures { scan (spelled w.now) (drop at s.now) ≡ end_in s.now result }
 {
-    let mut at = at;
-    let mut i = 0;
-    while i < w.len() {
-        if letter_at(s, at, w[i]) {
-            at += 1;
-            i += 1;
-        } else {
-            return EndAt::Nothing;
+    let mut end = at;
+    for &capital in w {
+        if !letter_at(s, end, capital) {
+            return None;
         }
+        end += 1;
     }
-    EndAt::Found(at)
+    Some(end)
 }
 
 // Whether two texts are the same.
 pub fn same_bytes(a: &[u8], b: &[u8]) -> bool
     ensures { result ≡ same a.now b.now }
 {
-    if a.len() != b.len() {
-        return false;
-    }
-    let mut i = 0;
-    while i < a.len() {
-        if a[i] != b[i] {
-            return false;
-        }
-        i += 1;
-    }
-    true
+    a == b
 }

@@ -1,4 +1,5 @@
 -- The time of day of fields, and the instant of a day and a time.
+use Rattle.std.specs.Prelude.{Ok}
 use mathlib.Core.Path.{◌≡◌, sym, ap, ◌∙◌, subst}
 use mathlib.Core.Bool.{Bool, true, ◌&&◌}
 use Prim.Native.Nat.{ℕ, suc, ◌+◌, ◌-◌, ◌*◌, ◌≤◌, ◌<◌}
@@ -15,7 +16,6 @@ use Rattle.calendar.specs.Calendar.{date_of, in_years}
 use Rattle.calendar.specs.Answers.{day_with}
 use Rattle.calendar.specs.declared.Calendar.{Calendar}
 use Rattle.calendar.specs.declared.Date.{Date}
-use Rattle.calendar.specs.declared.DayAnswer.{DayAnswer}
 use Rattle.calendar.proofs.Range.{small, low_day, high_day}
 use Rattle.calendar.proofs.Theorems.{range, answered}
 use Rattle.instant.specs.Instant.{is_clock, clock_time, instant_at}
@@ -46,7 +46,7 @@ day_small c (negsuc n) h =
     let w = (and_parts (le_z (low_day c) (negsuc n)) (le_z (negsuc n) (high_day c)) (sym (range c (negsuc n)) ∙ h)).0 in
     omega (arith, small c, leb-true n (epoch_day c - suc (first_day c)) (ap (λ (z : ℤ). le_z z (negsuc n)) (sym (sub_low (first_day c) (epoch_day c) (omega (arith, small c)))) ∙ w))
 
-pub answered_small : (rest : Bool) (c : Calendar) (x : Date) (z : ℤ) → DayAnswer.Is z ≡ day_with rest c x → mag z < 5000000
+pub answered_small : (rest : Bool) (c : Calendar) (x : Date) (z : ℤ) → Ok z ≡ day_with rest c x → mag z < 5000000
 answered_small rest c x z h = let n = answered rest c x z h in day_small c z (ap (λ (d : Date). in_years d.year) n.is ∙ n.inside)
 
 -- ---- the day's beginning and a time of day: k is the day, biased by 2^63

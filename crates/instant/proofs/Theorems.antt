@@ -1,4 +1,5 @@
 -- What is proved of instants and their fields, in one place: there and back, and order. `c` is any of the six calendars, t and u any integers.
+use Rattle.std.specs.Prelude.{Result, Ok, Err}
 use mathlib.Core.Path.{◌≡◌, refl, sym, ap, ◌∙◌}
 use mathlib.Core.Bool.{Bool, true, false, ◌&&◌, ◌||◌}
 use Prim.Native.Nat.{ℕ, suc, ◌+◌, ◌-◌, ◌*◌, ◌/◌, ◌%◌, ◌<◌}
@@ -17,16 +18,12 @@ use Rattle.calendar.specs.Order.{earlier, same_date}
 use Rattle.calendar.specs.Answers.{day_number, day_with}
 use Rattle.calendar.specs.declared.Calendar.{Calendar}
 use Rattle.calendar.specs.declared.Date.{Date}
-use Rattle.calendar.specs.declared.DateAnswer.{DateAnswer}
-use Rattle.calendar.specs.declared.DayAnswer.{DayAnswer}
 use Rattle.calendar.proofs.Numbering.{same_day}
 use Rattle.calendar.proofs.Answering.{in_range_lem, out_of_range, date_there}
 use Rattle.calendar.proofs.Theorems.{order, dates_exist, date_of_number, Numbered, answered}
 use Rattle.instant.specs.Instant.{day_of, time_of, instant_at, in_range, fields_at, with_time, fields_answer, date_in, is_clock, clock_time, with_clock, instant_with, instant_answer}
 use Rattle.instant.specs.Order.{earlier_clock, earlier_fields}
 use Rattle.instant.specs.declared.Fields.{Fields}
-use Rattle.instant.specs.declared.FieldsAnswer.{FieldsAnswer}
-use Rattle.instant.specs.declared.InstantAnswer.{InstantAnswer}
 use Rattle.instant.proofs.Clock.{Clock, clock_of, clock_small}
 
 -- ---- an instant is its day and its time of day
@@ -91,23 +88,23 @@ fields_of_time f c =
 
 -- the fields of an instant in range
 module _ (c : Calendar) (t : ℤ) where
-  pub fields_in_lem : in_range c t ≡ true → fields_answer c t ≡ FieldsAnswer.Is (fields_at (date_of c (day_of t)) (time_of t))
+  pub fields_in_lem : in_range c t ≡ true → fields_answer c t ≡ Ok (fields_at (date_of c (day_of t)) (time_of t))
   unfolding fields_answer
-  fields_in_lem h = ap (λ (a : DateAnswer). with_time a (time_of t)) (sym (in_range_lem c (day_of t) h))
+  fields_in_lem h = ap (λ (a : Result Date Refusal). with_time a (time_of t)) (sym (in_range_lem c (day_of t) h))
 
   -- an instant whose fields are given is in range, and these are its fields
   pub record Shown (f : Fields) : Type 0 where
     pub inside : in_range c t ≡ true
     pub is : fields_at (date_of c (day_of t)) (time_of t) ≡ f
 
-  pub shown : (f : Fields) → fields_answer c t ≡ FieldsAnswer.Is f → Shown f
+  pub shown : (f : Fields) → fields_answer c t ≡ Ok f → Shown f
   unfolding fields_answer
   shown f h = go (in_range c t) refl
     where
       go : (b : Bool) → in_range c t ≡ b → Shown f
-      go true e = record { inside = e; is = (cc (ap (λ (a : DateAnswer). with_time a (time_of t)) (in_range_lem c (day_of t) e) ∙ h)) }
+      go true e = record { inside = e; is = (cc (ap (λ (a : Result Date Refusal). with_time a (time_of t)) (in_range_lem c (day_of t) e) ∙ h)) }
       go false e =
-          let k : FieldsAnswer.Refused OutOfRange ≡ FieldsAnswer.Is f = ap (λ (a : DateAnswer). with_time a (time_of t)) (out_of_range c (day_of t) e) ∙ h in
+          let k : Err OutOfRange ≡ Ok f = ap (λ (a : Result Date Refusal). with_time a (time_of t)) (out_of_range c (day_of t) e) ∙ h in
           absurd (let y : ◌≡◌ {A = ℕ} 0 1 = (cc) in omega arith)
 
 -- the day number and the time of fields whose instant is given
@@ -119,34 +116,34 @@ module _ (rest : Bool) (c : Calendar) (f : Fields) (t : ℤ) where
     pub dated : Numbered (rest && is_clock f) c (date_in f) day
     pub is : day *ℤ pos 86400000000 +ℤ pos (clock_time f) ≡ t
 
-  pub placed : instant_with rest c f ≡ InstantAnswer.Is t → Placed
+  pub placed : instant_with rest c f ≡ Ok t → Placed
   unfolding instant_with
   placed = go (day_with (rest && is_clock f) c (date_in f)) refl
     where
-      go : (a : DayAnswer) → a ≡ day_with (rest && is_clock f) c (date_in f) → with_clock a f ≡ InstantAnswer.Is t → Placed
-      go (DayAnswer.Is n) e h =
+      go : (a : Result ℤ Refusal) → a ≡ day_with (rest && is_clock f) c (date_in f) → with_clock a f ≡ Ok t → Placed
+      go (Ok n) e h =
           let d = answered (rest && is_clock f) c (date_in f) n e in
           let w = and_parts rest (is_clock f) d.beside in
           record { day = n; beside = w.0; clock = w.1; dated = d; is = (cc h) }
-      go (DayAnswer.Refused r) e h = absurd (let y : ◌≡◌ {A = ℕ} 0 1 = (cc) in omega arith)
+      go (Err r) e h = absurd (let y : ◌≡◌ {A = ℕ} 0 1 = (cc) in omega arith)
 
 -- fields are refused as their date is, which has the time of day beside it
-pub refused_as_date : (rest : Bool) (c : Calendar) (f : Fields) (r : Refusal) → DayAnswer.Refused r ≡ day_with (rest && is_clock f) c (date_in f) → InstantAnswer.Refused r ≡ instant_with rest c f
+pub refused_as_date : (rest : Bool) (c : Calendar) (f : Fields) (r : Refusal) → Err r ≡ day_with (rest && is_clock f) c (date_in f) → Err r ≡ instant_with rest c f
 unfolding instant_with
-refused_as_date rest c f r e = ap (λ (a : DayAnswer). with_clock a f) e
+refused_as_date rest c f r e = ap (λ (a : Result ℤ Refusal). with_clock a f) e
 
 -- and those that a calendar has are an instant's
-pub fields_had : (c : Calendar) (f : Fields) → in_years f.year ≡ true → exists c (date_in f) ≡ true → is_clock f ≡ true → InstantAnswer.Is (instant_at (day_number c (date_in f)) (clock_time f)) ≡ instant_answer c f
+pub fields_had : (c : Calendar) (f : Fields) → in_years f.year ≡ true → exists c (date_in f) ≡ true → is_clock f ≡ true → Ok (instant_at (day_number c (date_in f)) (clock_time f)) ≡ instant_answer c f
 unfolding instant_with
 fields_had c f h g k =
     let d = date_in f in
-    ap (λ (a : DayAnswer). with_clock a f) (date_there c d (day_number c d) h g (date_of_number c d h g) ∙ ap (λ (b : Bool). day_with b c d) (sym k))
+    ap (λ (a : Result ℤ Refusal). with_clock a f) (date_there c d (day_number c d) h g (date_of_number c d h g) ∙ ap (λ (b : Bool). day_with b c d) (sym k))
 
 -- ---- there and back
 
 module _ (c : Calendar) where
   -- the fields of the instant of fields
-  pub fields_of_instant : (f : Fields) (t : ℤ) → instant_answer c f ≡ InstantAnswer.Is t → fields_answer c t ≡ FieldsAnswer.Is f
+  pub fields_of_instant : (f : Fields) (t : ℤ) → instant_answer c f ≡ Ok t → fields_answer c t ≡ Ok f
   fields_of_instant f t h =
       let p = placed true c f t h in
       let s = clock_small f p.clock in
@@ -154,10 +151,10 @@ module _ (c : Calendar) where
       let d : day_of t ≡ p.day = ap day_of (sym p.is) ∙ day_of_sum p.day (clock_time f) s in
       let u : time_of t ≡ clock_time f = ap time_of (sym p.is) ∙ time_of_sum p.day (clock_time f) s in
       let w : date_of c (day_of t) ≡ date_in f = ap (date_of c) d ∙ n.is in
-      fields_in_lem c t (ap (λ (x : Date). in_years x.year) w ∙ n.inside) ∙ ap FieldsAnswer.Is ((λ i. fields_at (w i) (u i)) ∙ fields_of_time f (clock_of f p.clock))
+      fields_in_lem c t (ap (λ (x : Date). in_years x.year) w ∙ n.inside) ∙ ap Ok ((λ i. fields_at (w i) (u i)) ∙ fields_of_time f (clock_of f p.clock))
 
   -- the instant of the fields of an instant
-  pub instant_of_fields : (t : ℤ) (f : Fields) → fields_answer c t ≡ FieldsAnswer.Is f → instant_answer c f ≡ InstantAnswer.Is t
+  pub instant_of_fields : (t : ℤ) (f : Fields) → fields_answer c t ≡ Ok f → instant_answer c f ≡ Ok t
   unfolding instant_with
   instant_of_fields t f h =
       let v = shown c t f h in
@@ -165,10 +162,10 @@ module _ (c : Calendar) where
       let s = time_of t in
       let g = fields_at d s in
       let k : is_clock g ≡ true = clock_of_time d s (time_small t) in
-      let a : DayAnswer.Is (day_of t) ≡ day_with (is_clock g) c d = date_there c d (day_of t) v.inside (dates_exist c (day_of t)) refl ∙ ap (λ (b : Bool). day_with b c d) (sym k) in
+      let a : Ok (day_of t) ≡ day_with (is_clock g) c d = date_there c d (day_of t) v.inside (dates_exist c (day_of t)) refl ∙ ap (λ (b : Bool). day_with b c d) (sym k) in
       let i : day_of t *ℤ pos 86400000000 +ℤ pos (clock_time g) ≡ t = ap (λ (n : ℕ). day_of t *ℤ pos 86400000000 +ℤ pos n) (time_of_fields d s) ∙ day_and_time t in
       ap (λ (x : Fields). with_clock (day_with (is_clock x) c (date_in x)) x) (sym v.is)
-      ∙ (ap (λ (x : DayAnswer). with_clock x g) (sym a) ∙ ap InstantAnswer.Is i)
+      ∙ (ap (λ (x : Result ℤ Refusal). with_clock x g) (sym a) ∙ ap Ok i)
 
 -- ---- order
 
@@ -197,7 +194,7 @@ instant_is : (t : ℤ) (a b : ℕ) → sub_ℕ a b ≡ day_of t → sub_ℕ (a *
 instant_is t a b e = sym (times_plus a b 86400000000 (time_of t)) ∙ (ap (λ (z : ℤ). z *ℤ pos 86400000000 +ℤ pos (time_of t)) e ∙ day_and_time t)
 
 -- of two instants the earlier has the earlier fields, and the other way round
-pub fields_order : (c : Calendar) (t u : ℤ) (f g : Fields) → fields_answer c t ≡ FieldsAnswer.Is f → fields_answer c u ≡ FieldsAnswer.Is g → earlier_fields f g ≡ lt_z t u
+pub fields_order : (c : Calendar) (t u : ℤ) (f g : Fields) → fields_answer c t ≡ Ok f → fields_answer c u ≡ Ok g → earlier_fields f g ≡ lt_z t u
 unfolding earlier_fields
 fields_order c t u f g p q =
     let v = shown c t f p in

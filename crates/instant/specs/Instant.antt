@@ -1,14 +1,11 @@
 -- Instants and their fields: document 01, "Instants and axes". An instant is a count of microseconds since the start of 1970.
-use Rattle.std.specs.Prelude.{Bool, true, ◌&&◌, ℕ, ◌+◌, ◌-◌, ◌*◌, ◌/◌, ◌%◌, ltb, ℤ, pos, negsuc, ◌+ℤ◌, ◌*ℤ◌}
+use Rattle.std.specs.Prelude.{Bool, true, ◌&&◌, ℕ, ◌+◌, ◌-◌, ◌*◌, ◌/◌, ◌%◌, ltb, ℤ, pos, negsuc, ◌+ℤ◌, ◌*ℤ◌, Result, Ok, Err}
 use Rattle.calendar.specs.Calendar.{date, date_of, in_years}
 use Rattle.calendar.specs.Answers.{date_answer, day_with}
 use Rattle.calendar.specs.declared.Calendar.{Calendar}
 use Rattle.calendar.specs.declared.Date.{Date}
-use Rattle.calendar.specs.declared.DateAnswer.{DateAnswer}
-use Rattle.calendar.specs.declared.DayAnswer.{DayAnswer}
 use Rattle.instant.specs.declared.Fields.{Fields}
-use Rattle.instant.specs.declared.FieldsAnswer.{FieldsAnswer}
-use Rattle.instant.specs.declared.InstantAnswer.{InstantAnswer}
+use Rattle.refusal.specs.declared.Refusal.{Refusal}
 
 -- ---- the day of an instant and its time of day
 
@@ -48,12 +45,12 @@ fields_at d s =
       microsecond = s % 1000000;
     }
 
-abbrev pub with_time : DateAnswer → ℕ → FieldsAnswer
-with_time (DateAnswer.Is d) s = FieldsAnswer.Is (fields_at d s)
-with_time (DateAnswer.Refused r) s = FieldsAnswer.Refused r
+abbrev pub with_time : Result Date Refusal → ℕ → Result Fields Refusal
+with_time (Ok d) s = Ok (fields_at d s)
+with_time (Err r) s = Err r
 
 -- refused as the date of its day is
-unfoldable pub fields_answer : Calendar → ℤ → FieldsAnswer
+unfoldable pub fields_answer : Calendar → ℤ → Result Fields Refusal
 fields_answer c t = with_time (date_answer c (day_of t)) (time_of t)
 
 -- ---- the instant of fields
@@ -68,15 +65,15 @@ is_clock f = (ltb f.hour 24 && ltb f.minute 60) && (ltb f.second 60 && ltb f.mic
 abbrev pub clock_time : Fields → ℕ
 clock_time f = ((f.hour * 60 + f.minute) * 60 + f.second) * 1000000 + f.microsecond
 
-abbrev pub with_clock : DayAnswer → Fields → InstantAnswer
-with_clock (DayAnswer.Is n) f = InstantAnswer.Is (instant_at n (clock_time f))
-with_clock (DayAnswer.Refused r) f = InstantAnswer.Refused r
+abbrev pub with_clock : Result ℤ Refusal → Fields → Result ℤ Refusal
+with_clock (Ok n) f = Ok (instant_at n (clock_time f))
+with_clock (Err r) f = Err r
 
 -- the instant of fields with what stands beside them, a zone; `rest` says that it is possible. Refused as their date is, which has the time of
 -- day and the rest beside it
-unfoldable pub instant_with : Bool → Calendar → Fields → InstantAnswer
+unfoldable pub instant_with : Bool → Calendar → Fields → Result ℤ Refusal
 instant_with rest c f = with_clock (day_with (rest && is_clock f) c (date_in f)) f
 
 -- the instant of fields alone
-abbrev pub instant_answer : Calendar → Fields → InstantAnswer
+abbrev pub instant_answer : Calendar → Fields → Result ℤ Refusal
 instant_answer c f = instant_with true c f

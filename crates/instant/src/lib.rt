@@ -10,7 +10,7 @@ ghost use Rattle.calendar.specs.Closed.{epoch_day, end_day};
 ghost use Rattle.instant.specs.Instant.{day_length, day_of, time_of, instant_at, in_range, clock_time, is_clock, fields_at, fields_answer, instant_answer};
 ghost use Rattle.instant.specs.Closed.{first_instant, last_instant, fields_refusal, FoundAt};
 
-use calendar::{Calendar, Date, DateAnswer, FoundDay};
+use calendar::{Calendar, Date};
 use refusal::Refusal;
 
 #[repr(C)]
@@ -23,20 +23,6 @@ pub struct Fields {
     pub minute: u32,
     pub second: u32,
     pub microsecond: u32,
-}
-
-// The fields of an instant.
-#[derive(Clone, Copy)]
-pub enum FieldsAnswer {
-    Is(Fields),
-    Refused(Refusal),
-}
-
-// The instant of fields.
-#[derive(Clone, Copy)]
-pub enum InstantAnswer {
-    Is(i64),
-    Refused(Refusal),
 }
 
 // The instant of a day, counted from 1970-01-01, at a time of day.
@@ -129,14 +115,12 @@ fn fields_at(d: Date, s: u64) -> Fields
 }
 
 // The fields of an instant; OutOfRange where its year lies past -9999 to 9999.
-pub fn fields_of(c: Calendar, t: i64) -> FieldsAnswer
+pub fn fields_of(c: Calendar, t: i64) -> Result<Fields, Refusal>
     ensures { result ≡ fields_answer c t }
 {
     let s = day_and_time(t);
-    match calendar::date_of_biased_day(c, s.day) {
-        DateAnswer::Refused(r) => return FieldsAnswer::Refused(r),
-        DateAnswer::Is(d) => return FieldsAnswer::Is(fields_at(d, s.time)),
-    }
+    let d = calendar::date_of_biased_day(c, s.day)?;
+    Ok(fields_at(d, s.time))
 }
 
 // Whether the fields name a time of day.
@@ -163,32 +147,23 @@ pub fn clock_time(f: Fields) -> u64
         + (f.microsecond as u64)
 }
 
-// The instant of fields, or that there is none.
-#[derive(Clone, Copy)]
-pub enum FoundInstant {
-    Is(i64),
-    Nothing,
-}
-
 // The instant of fields that have others beside them; `rest` says that each of these is possible.
-pub fn found_instant(c: Calendar, f: Fields, rest: bool) -> FoundInstant
+pub fn found_instant(c: Calendar, f: Fields, rest: bool) -> Option<i64>
     ensures { FoundAt rest c f result }
 {
     if !rest {
-        return FoundInstant::Nothing;
+        return None;
     }
     if !is_clock(f) {
-        return FoundInstant::Nothing;
+        return None;
     }
     let d = Date {
         year: f.year,
         month: f.month,
         day: f.day,
     };
-    match calendar::found_day(c, d) {
-        FoundDay::Is(n) => return FoundInstant::Is(instant_at(n, clock_time(f))),
-        FoundDay::Nothing => return FoundInstant::Nothing,
-    }
+    let n = calendar::found_day(c, d)?;
+    Some(instant_at(n, clock_time(f)))
 }
 
 // Why fields for which no instant is found are refused, or for what stands beside them: as their date is, which has the time of day and the
@@ -208,11 +183,11 @@ pub fn fields_refusal(c: Calendar, f: Fields, rest: bool) -> Refusal
 }
 
 // The instant of fields alone, or their refusal.
-pub fn instant_of(c: Calendar, f: Fields) -> InstantAnswer
+pub fn instant_of(c: Calendar, f: Fields) -> Result<i64, Refusal>
     ensures { result ≡ instant_answer c f }
 {
     match found_instant(c, f, true) {
-        FoundInstant::Is(t) => return InstantAnswer::Is(t),
-        FoundInstant::Nothing => return InstantAnswer::Refused(fields_refusal(c, f, true)),
+        Some(t) => return Ok(t),
+        None => return Err(fields_refusal(c, f, true)),
     }
 }

@@ -1,4 +1,5 @@
 -- The text as a part of 28 bytes, and what a copy of that part leaves in the room.
+use Rattle.std.specs.Prelude.{Ok, Err}
 use Prim.Native.Nat.{ℕ, ◌-◌, ◌≤◌, ◌<◌}
 use native.Mathlib.Omega.{arith}
 use mathlib.Core.Path.{◌≡◌, refl, sym, ap, ◌∙◌}
@@ -9,7 +10,6 @@ use lib.Seq.{take-length}
 use borrow.Author.Tests.{le-leb, lt-leb}
 use Rattle.refusal.specs.declared.Refusal.{Refusal}
 use Rattle.date_text.specs.declared.WrittenDate.{WrittenDate}
-use Rattle.iso_form.specs.declared.LengthAnswer.{LengthAnswer}
 use Rattle.iso_form.specs.Form.{body, iso_text, length_answer, over}
 use Rattle.iso_form.specs.Closed.{lead}
 
@@ -38,7 +38,7 @@ iso_part w = go w.negative
 -- ---- a text and the room for it
 
 module _ (text room : List ℕ) (h : length room < length text) where
-  pub short_answer : length_answer text room ≡ LengthAnswer.Refused Refusal.NoRoom
+  pub short_answer : length_answer text room ≡ Err Refusal.NoRoom
   unfolding length_answer
   short_answer = rw (lt-leb (length text) (length room) h)
 
@@ -47,7 +47,7 @@ module _ (text room : List ℕ) (h : length room < length text) where
   short_over = rw (lt-leb (length text) (length room) h)
 
 module _ (text room : List ℕ) (h : length text ≤ length room) where
-  pub whole_answer : length_answer text room ≡ LengthAnswer.Is (length text)
+  pub whole_answer : length_answer text room ≡ Ok (length text)
   unfolding length_answer
   whole_answer = rw (le-leb (length text) (length room) h)
 

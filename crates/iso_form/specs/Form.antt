@@ -1,9 +1,9 @@
 -- The one form in which ISO text is written (document 01, "The units text"), and what writing a text into lent room does.
-use Rattle.std.specs.Prelude.{ℕ, ◌+◌, ◌/◌, ◌%◌, cond, List, [], ◌∷◌, ◌++◌, length, drop, leb}
+use Rattle.std.specs.Prelude.{ℕ, ◌+◌, ◌/◌, ◌%◌, cond, List, [], ◌∷◌, ◌++◌, length, drop, leb, Result, Ok, Err}
 use Rattle.grammar.specs.Rules.{bytes}
 use Rattle.date_text.specs.declared.WrittenDate.{WrittenDate}
 use Rattle.refusal.specs.declared.Refusal.TheVariants.{NoRoom}
-use Rattle.iso_form.specs.declared.LengthAnswer.{LengthAnswer}
+use Rattle.refusal.specs.declared.Refusal.{Refusal}
 
 -- ---- the text
 
@@ -33,8 +33,8 @@ iso_text w = cond w.negative (bytes "-" ++ body w) (body w)
 -- ---- a text written into room
 
 -- the text's length, or that the room is too short for it
-unfoldable pub length_answer : List ℕ → List ℕ → LengthAnswer
-length_answer text room = cond (leb (length text) (length room)) (LengthAnswer.Is (length text)) (LengthAnswer.Refused NoRoom)
+unfoldable pub length_answer : List ℕ → List ℕ → Result ℕ Refusal
+length_answer text room = cond (leb (length text) (length room)) (Ok (length text)) (Err NoRoom)
 
 -- the text, and beyond it the room as it was; room that is too short stays as it was
 unfoldable pub over : List ℕ → List ℕ → List ℕ

@@ -9,13 +9,6 @@ ghost use Rattle.iso_form.specs.Closed.{lead};
 use date_text::WrittenDate;
 use refusal::Refusal;
 
-// The length of what was written.
-#[derive(Clone, Copy)]
-pub enum LengthAnswer {
-    Is(usize),
-    Refused(Refusal),
-}
-
 // The text of 28 bytes, whose first byte is the minus.
 fn text(w: WrittenDate) -> [u8; 28]
     ensures { result ≡ 45 ∷ body w }
@@ -61,7 +54,7 @@ fn start(negative: bool) -> usize
 }
 
 // Writes the text of a date in UTC; room that is too short keeps its bytes.
-pub fn write_form(w: WrittenDate, room: &mut [u8]) -> LengthAnswer
+pub fn write_form(w: WrittenDate, room: &mut [u8]) -> Result<usize, Refusal>
     ensures value { result ≡ length_answer (iso_text w) room.old }
     ensures room_after { room.new ≡ over (iso_text w) room.old }
 {
@@ -69,8 +62,8 @@ pub fn write_form(w: WrittenDate, room: &mut [u8]) -> LengthAnswer
     let a = start(w.negative);
     let n = 28 - a;
     if room.len() < n {
-        return LengthAnswer::Refused(Refusal::NoRoom);
+        return Err(Refusal::NoRoom);
     }
     room[..n].copy_from_slice(&t[a..]);
-    LengthAnswer::Is(n)
+    Ok(n)
 }

@@ -1,4 +1,5 @@
 -- A year's sign and digits.
+use Rattle.std.specs.Prelude.{Ok}
 use Prim.Native.Nat.{ℕ, suc, ◌-◌, ◌≤◌, ◌<◌}
 use native.Mathlib.Omega.{arith}
 use mathlib.Core.Path.{◌≡◌, refl, sym, ap, ◌∙◌}
@@ -14,7 +15,6 @@ use Rattle.calendar.specs.Calendar.{in_years}
 use Rattle.calendar.specs.declared.Calendar.{Calendar}
 use Rattle.instant.specs.Instant.{fields_answer}
 use Rattle.instant.specs.declared.Fields.{Fields}
-use Rattle.instant.specs.declared.FieldsAnswer.{FieldsAnswer}
 use Rattle.instant.proofs.Theorems.{shown}
 use Rattle.iso_text.specs.Iso.{is_negative}
 
@@ -37,5 +37,5 @@ module _ (y : ℤ) (k : ℕ) (e : unbiased k ≡ y) where
   abs_high h = ap nat_abs (sym (sub_high k 9223372036854775808 h) ∙ e)
 
 -- the year of an instant's fields
-pub fields_year : (c : Calendar) (t : ℤ) (f : Fields) → fields_answer c t ≡ FieldsAnswer.Is f → in_years f.year ≡ true
+pub fields_year : (c : Calendar) (t : ℤ) (f : Fields) → fields_answer c t ≡ Ok f → in_years f.year ≡ true
 fields_year c t f e = let v = shown c t f e in ap (λ (g : Fields). in_years g.year) (sym v.is) ∙ v.inside

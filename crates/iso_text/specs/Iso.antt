@@ -1,23 +1,21 @@
 -- Reading and writing ISO text: document 01, "The units text" and "Numbers returned", and document 02, CR 5 and CR 8. A text is refused with 1, 2, 16, 3,
 -- then as its date is, and writing with 5, then 7.
-use Rattle.std.specs.Prelude.{Bool, true, false, List, ℕ, ℤ, pos, negsuc, nat_abs}
+use Rattle.std.specs.Prelude.{Bool, true, false, List, ℕ, ℤ, pos, negsuc, nat_abs, Result, Ok, Err}
 use Rattle.calendar.specs.declared.Calendar.{Calendar}
 use Rattle.calendar.specs.declared.Date.{Date}
 use Rattle.instant.specs.Instant.{fields_answer}
 use Rattle.instant.specs.declared.Fields.{Fields}
-use Rattle.instant.specs.declared.FieldsAnswer.{FieldsAnswer}
-use Rattle.instant.specs.declared.InstantAnswer.{InstantAnswer}
 use Rattle.date_text.specs.declared.WrittenDate.{WrittenDate}
 use Rattle.date_text.specs.DateRule.{utc, date_rule}
 use Rattle.written_instant.specs.Instants.{written_instant}
 use Rattle.named_text.specs.Texts.{read_text}
 use Rattle.iso_form.specs.Form.{iso_text, length_answer, over}
-use Rattle.iso_form.specs.declared.LengthAnswer.{LengthAnswer}
+use Rattle.refusal.specs.declared.Refusal.{Refusal}
 
 -- ---- reading
 
-unfoldable pub read_iso : List ℕ → Date → List ℕ → InstantAnswer
-read_iso name x text = read_text InstantAnswer.Refused date_rule written_instant name x text
+unfoldable pub read_iso : List ℕ → Date → List ℕ → Result ℤ Refusal
+read_iso name x text = read_text Err date_rule written_instant name x text
 
 -- ---- writing
 
@@ -39,16 +37,16 @@ utc_date f =
 abbrev pub text_of : Fields → List ℕ
 text_of f = iso_text (utc_date f)
 
-abbrev pub iso_length : FieldsAnswer → List ℕ → LengthAnswer
-iso_length (FieldsAnswer.Is f) room = length_answer (text_of f) room
-iso_length (FieldsAnswer.Refused r) room = LengthAnswer.Refused r
+abbrev pub iso_length : Result Fields Refusal → List ℕ → Result ℕ Refusal
+iso_length (Ok f) room = length_answer (text_of f) room
+iso_length (Err r) room = Err r
 
-abbrev pub iso_room : FieldsAnswer → List ℕ → List ℕ
-iso_room (FieldsAnswer.Is f) room = over (text_of f) room
-iso_room (FieldsAnswer.Refused r) room = room
+abbrev pub iso_room : Result Fields Refusal → List ℕ → List ℕ
+iso_room (Ok f) room = over (text_of f) room
+iso_room (Err r) room = room
 
 -- what writing an instant answers, and what it leaves in the room
-unfoldable pub write_iso : Calendar → ℤ → List ℕ → LengthAnswer
+unfoldable pub write_iso : Calendar → ℤ → List ℕ → Result ℕ Refusal
 write_iso c t room = iso_length (fields_answer c t) room
 
 unfoldable pub room_iso : Calendar → ℤ → List ℕ → List ℕ

@@ -7,25 +7,19 @@ ghost use Rattle.calendar.specs.Calendar.{in_years};
 ghost use Rattle.iso_text.specs.Iso.{read_iso, utc_date, write_iso, room_iso};
 
 use calendar::{Calendar, Date};
-use cutover::CalendarAnswer;
-use date_text::{Time, WrittenAnswer, WrittenDate, Zone};
-use instant::{Fields, FieldsAnswer, InstantAnswer};
-use iso_form::LengthAnswer;
+use date_text::{Time, WrittenDate, Zone};
+use instant::Fields;
 use refusal::Refusal;
 
 // The instant of a text in the calendar of a name with a cutover.
-pub fn read_iso(name: &[u8], x: Date, text: &[u8]) -> InstantAnswer
+pub fn read_iso(name: &[u8], x: Date, text: &[u8]) -> Result<i64, Refusal>
     ensures { result ≡ read_iso name.now x text.now }
 {
-    match named_text::text_calendar(name, x, text) {
-        CalendarAnswer::Refused(r) => return InstantAnswer::Refused(r),
-        CalendarAnswer::Is(c) => {
-            let WrittenAnswer::Read(w) = date_text::read_date(text) else {
-                return InstantAnswer::Refused(Refusal::IllFormed);
-            };
-            return written_instant::written_instant(c, w);
-        }
-    }
+    let c = named_text::text_calendar(name, x, text)?;
+    let Some(w) = date_text::read_date(text) else {
+        return Err(Refusal::IllFormed);
+    };
+    written_instant::written_instant(c, w)
 }
 
 // A year of four digits without its sign.
@@ -33,11 +27,7 @@ fn year_digits(y: i64) -> u32
     requires { in_years y ≡ true }
     ensures { result ≡ nat_abs y }
 {
-    let k = signed::biased(y);
-    if k < 0x8000_0000_0000_0000 {
-        return (0x8000_0000_0000_0000 - k) as u32;
-    }
-    return (k - 0x8000_0000_0000_0000) as u32;
+    y.unsigned_abs() as u32
 }
 
 // Fields as a date that is written.
@@ -65,12 +55,10 @@ fn written_of(f: Fields) -> WrittenDate
 }
 
 // Writes the text of an instant, and answers its length. Room beyond it keeps its bytes, and on a refusal all of it does.
-pub fn write_iso(c: Calendar, t: i64, room: &mut [u8]) -> LengthAnswer
+pub fn write_iso(c: Calendar, t: i64, room: &mut [u8]) -> Result<usize, Refusal>
     ensures value { result ≡ write_iso c t room.old }
     ensures room_after { room.new ≡ room_iso c t room.old }
 {
-    match instant::fields_of(c, t) {
-        FieldsAnswer::Refused(r) => return LengthAnswer::Refused(r),
-        FieldsAnswer::Is(f) => return iso_form::write_form(written_of(f), room),
-    }
+    let f = instant::fields_of(c, t)?;
+    iso_form::write_form(written_of(f), room)
 }

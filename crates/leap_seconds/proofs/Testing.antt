@@ -149,3 +149,6 @@ module _ (s : List ℕ) where
         opened
         ∙ ((λ i. eqb (length s % 16) 0 && (((is_natural (to_z w64 (d i)) 730 && is_natural (to_z w64 (k i)) 10) && leb (length s / 16 - 1) 63) && rises_from (to_z w64 (d i)) 10 rest))
         ∙ rw (eq-eqb (length s % 16) 0 a, le-leb (length s / 16 - 1) 63 (omega arith)))
+
+-- the tests that a list does not pass, and what they leave
+pub ruleset list_tests = (part_record, no_record, too_many, other_day, other_first, by_rest)

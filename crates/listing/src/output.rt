@@ -4,10 +4,13 @@ ghost use Rattle.listing.specs.Failure.{IsOfOutput};
 ghost use Rattle.iso_form.specs.Form.{over};
 ghost use Rattle.listing_line.specs.Line.{line_text};
 
+use crate::buffer::Buffer;
 use crate::failure::{Failure, try_again};
-use iso_form::LengthAnswer;
 use std::io;
 use std::io::{ErrorKind, Write};
+
+// Room for answers.
+pub(crate) type Answers = Buffer<65536>;
 
 // A write that took nothing and names no error has none to wait for, and is not tried again.
 fn nothing_taken() -> Failure
@@ -16,20 +19,19 @@ fn nothing_taken() -> Failure
     Failure::Output(io::Error::new(ErrorKind::WriteZero, "Nothing was taken"))
 }
 
-// Writes out the first bytes of the buffer. A write may take a part, and the next one goes on with the rest. The writes are counted, to a
-// number that no run reaches.
-pub(crate) fn flush<W: Write>(to: &mut W, out: &[u8], used: usize) -> Result<(), Failure>
+// Writes out all bytes. A write may take a part, and the next one goes on with the rest. The writes are counted, to a number that no run
+// reaches.
+fn write_all<W: Write>(to: &mut W, bytes: &[u8]) -> Result<(), Failure>
     ensures { IfErr result IsOfOutput }
 {
-    let end = crate::least(used, out.len());
-    let mut done: usize = 0;
+    let mut rest = bytes;
     for _ in 0..u64::MAX {
-        if done == end {
+        if rest.is_empty() {
             return Ok(());
         }
-        match to.write(&out[done..end]) {
+        match to.write(rest) {
             Ok(0) => return Err(nothing_taken()),
-            Ok(n) => done += n,
+            Ok(n) => rest = &rest[n..],
             Err(error) => {
                 if !try_again(&error) {
                     return Err(Failure::Output(error));
@@ -40,17 +42,25 @@ pub(crate) fn flush<W: Write>(to: &mut W, out: &[u8], used: usize) -> Result<(),
     Err(nothing_taken())
 }
 
-// Room for the next answer, and where in the buffer it is: the buffer is written out where too little is left of it.
-pub(crate) fn make_room<W: Write>(to: &mut W, out: &[u8], used: usize) -> Result<usize, Failure>
-    requires { 64 ≤ length out.now }
-    ensures ok { IfOk result (λ at. at + 64 ≤ length out.now) }
+// Writes out the answers, and makes room for others.
+pub(crate) fn flush<W: Write>(to: &mut W, out: &mut Answers) -> Result<(), Failure>
+    ensures ok { IfOk result (λ u. out.new.used ≡ 0) }
     ensures err { IfErr result IsOfOutput }
 {
-    if used <= out.len() - 64 {
-        return Ok(used);
+    write_all(to, out.gathered())?;
+    out.clear();
+    Ok(())
+}
+
+// Room for the next answer: the buffer is written out where too little is left of it.
+fn make_room<W: Write>(to: &mut W, out: &mut Answers) -> Result<(), Failure>
+    ensures ok { IfOk result (λ u. out.new.used + 64 ≤ 65536) }
+    ensures err { IfErr result IsOfOutput }
+{
+    if 64 <= out.left() {
+        return Ok(());
     }
-    flush(to, out, used)?;
-    Ok(0)
+    flush(to, out)
 }
 
 // The answer to a line, at the front of room that is enough for any.
@@ -59,18 +69,14 @@ fn put(line: &[u8], room: &mut [u8]) -> usize
     ensures answered { (result ≡ length (line_text line.now)) × (result ≤ 64) }
     ensures written { room.new ≡ over (line_text line.now) room.old }
 {
-    let LengthAnswer::Is(n) = listing_line::answer(line, room) else {
-        return 0;
-    };
-    n
+    listing_line::answer(line, room).unwrap()
 }
 
-// The answer to a gathered line. Answers how much of the buffer is used then.
-pub(crate) fn answer(line: &[u8], gathered: usize, out: &mut [u8], used: usize) -> usize
-    requires { (used + 64 ≤ length out.old) × (gathered ≤ length line.now) }
-    ensures { result ≤ length out.old }
+// The answer to a line.
+pub(crate) fn answer<W: Write>(to: &mut W, line: &[u8], out: &mut Answers) -> Result<(), Failure>
+    ensures { IfErr result IsOfOutput }
 {
-    let start: usize = 0;
-    let n = put(&line[start..gathered], &mut out[used..]);
-    used + n
+    make_room(to, out)?;
+    out.used += put(line, &mut out.bytes[out.used..]);
+    Ok(())
 }

@@ -1,4 +1,5 @@
 -- What a line answers, once its length is tested and its bars are found, and the text of a refusal.
+use Rattle.std.specs.Prelude.{Err}
 use Prim.Native.Nat.{ℕ, ◌+◌, ◌≤◌, ◌<◌}
 use mathlib.Core.Path.{◌≡◌, sym, ap, ◌∙◌}
 use mathlib.Core.List.{List, ◌∷◌, ◌++◌}
@@ -11,11 +12,10 @@ use Rattle.refusal.specs.Number.{number_of}
 use Rattle.refusal.specs.declared.Refusal.{Refusal}
 use Rattle.refusal.specs.declared.Refusal.TheVariants.{TextTooLong}
 use Rattle.offset_text.specs.OffsetRule.{offset}
-use Rattle.listing_line.specs.declared.LineAnswer.{LineAnswer}
 use Rattle.listing_line.specs.Line.{parted, with_offset, of_parts, line_answer, refused_text, newline}
 use Rattle.listing_line.specs.Closed.{part, Places}
 
-pub long_line : (s : List ℕ) → 255 < length s → LineAnswer.Refused TextTooLong ≡ line_answer s
+pub long_line : (s : List ℕ) → 255 < length s → Err TextTooLong ≡ line_answer s
 unfolding line_answer
 long_line s h = rw (lt-leb (length s) 255 h)
 

@@ -1,4 +1,5 @@
 -- The texts between the bars of a line, from the places at which the code finds bars.
+use Rattle.std.specs.Prelude.{Err}
 use Prim.Native.Nat.{ℕ, suc, ◌+◌, ◌-◌, ◌≤◌, ◌<◌}
 use native.Mathlib.Omega.{arith}
 use mathlib.Core.Path.{◌≡◌, refl, sym, ap, ap₂, ◌∙◌}
@@ -9,7 +10,6 @@ use lib.ListN.{length, take, drop, length-drop}
 use lib.Seq.{take_all, take-length, drop-drop}
 use Rattle.byte_slices.specs.Bytes.{slice, index_after, index_of}
 use Rattle.refusal.specs.declared.Refusal.TheVariants.{IllFormed}
-use Rattle.listing_line.specs.declared.LineAnswer.{LineAnswer}
 use Rattle.listing_line.specs.Line.{on_first, parted, of_parts}
 use Rattle.listing_line.specs.Closed.{part}
 
@@ -59,12 +59,12 @@ module _ (s : List ℕ) (from r : ℕ) (e : r ≡ from + index_of 124 (slice fro
 -- ---- more than two bars
 
 -- there is always one text
-pub too_many : (a b c s : List ℕ) → of_parts (a ∷ b ∷ c ∷ parted s) ≡ LineAnswer.Refused IllFormed
+pub too_many : (a b c s : List ℕ) → of_parts (a ∷ b ∷ c ∷ parted s) ≡ Err IllFormed
 unfolding parted
 too_many a b c [] = refl
 too_many a b c (x ∷ s) = go (eqb x 124) (parted s)
   where
-    go : (t : Bool) (ps : List (List ℕ)) → of_parts (a ∷ b ∷ c ∷ cond t ([] ∷ ps) (on_first x ps)) ≡ LineAnswer.Refused IllFormed
+    go : (t : Bool) (ps : List (List ℕ)) → of_parts (a ∷ b ∷ c ∷ cond t ([] ∷ ps) (on_first x ps)) ≡ Err IllFormed
     go true ps = refl
     go false [] = refl
     go false (p ∷ ps) = refl

@@ -1,5 +1,5 @@
 -- What one line of the listing program prints: document 01, "The listing program".
-use Rattle.std.specs.Prelude.{ℕ, ◌+◌, Bool, cond, List, [], ◌∷◌, ◌++◌, leb, ltb, eqb, ℤ, length}
+use Rattle.std.specs.Prelude.{ℕ, ◌+◌, Bool, cond, List, [], ◌∷◌, ◌++◌, leb, ltb, eqb, ℤ, length, Result, Ok, Err}
 use Prim.Native.Char.{code}
 use Rattle.std.proofs.Math.Option.{Option, none, some}
 use Rattle.refusal.specs.Number.{number_of}
@@ -9,7 +9,6 @@ use Rattle.calendar.specs.Calendar.{date_of}
 use Rattle.calendar.specs.declared.Calendar.{Calendar}
 use Rattle.instant.specs.Instant.{day_of, time_of, fields_at}
 use Rattle.instant.specs.declared.Fields.{Fields}
-use Rattle.axis_types.specs.declared.Reading.{Reading}
 use Rattle.axis.specs.Axis.{read_offset}
 use Rattle.axis_types.specs.declared.Offset.{Offset}
 use Rattle.grammar.specs.Reader.{read}
@@ -18,9 +17,10 @@ use Rattle.iso_form.specs.Form.{two_digits}
 use Rattle.iso_text.specs.Iso.{text_of}
 use Rattle.calendar.specs.Cutover.{first_cutover}
 use Rattle.axis_text.specs.Units.{read_units}
-use Rattle.axis_text.specs.declared.AxisAnswer.{AxisAnswer}
 use Rattle.offset_text.specs.OffsetRule.{offset}
-use Rattle.listing_line.specs.declared.LineAnswer.{LineAnswer}
+use Rattle.listing_line.specs.declared.Shown.{Shown}
+use Rattle.axis_types.specs.Reading.{Reading}
+use Rattle.axis_types.specs.declared.Axis.{Axis}
 
 -- ---- the parts of a line
 
@@ -36,32 +36,35 @@ parted (b ∷ s) = cond (eqb b (code "|")) ([] ∷ parted s) (on_first b (parted
 
 -- ---- what a line answers: an instant of a calendar and whether it is exact, or a refusal
 
+abbrev pub LineAnswer : Type 0
+LineAnswer = Result Shown Refusal
+
 -- the reading of an offset in a calendar
 abbrev pub line_reading : Calendar → Reading → LineAnswer
-line_reading c (Reading.At t exact) = LineAnswer.Shows c t exact
-line_reading c (Reading.Refused r) = LineAnswer.Refused r
+line_reading c (Ok (t, exact)) = Ok (record { calendar = c; instant = t; exact = exact })
+line_reading c (Err r) = Err r
 
 -- an offset on the axis of the calendar name and the units, where there is one
-abbrev pub on_axis : AxisAnswer → Offset → LineAnswer
-on_axis (AxisAnswer.Is a) o = line_reading a.calendar (read_offset a o)
-on_axis (AxisAnswer.Refused r) o = LineAnswer.Refused r
+abbrev pub on_axis : Result Axis Refusal → Offset → LineAnswer
+on_axis (Ok a) o = line_reading a.calendar (read_offset a o)
+on_axis (Err r) o = Err r
 
 -- an offset of another form is refused before the name and the units are looked at; the cutover is that of 1582 (document 02, CR 8)
 abbrev pub with_offset : List ℕ → List ℕ → Option Offset → LineAnswer
 with_offset name units (some o) = on_axis (read_units name first_cutover units) o
-with_offset name units none = LineAnswer.Refused IllFormed
+with_offset name units none = Err IllFormed
 
 -- exactly two bars part the calendar name, the units and the offset
 abbrev pub of_parts : List (List ℕ) → LineAnswer
 of_parts (name ∷ units ∷ text ∷ []) = with_offset name units (read offset text)
-of_parts [] = LineAnswer.Refused IllFormed
-of_parts (name ∷ []) = LineAnswer.Refused IllFormed
-of_parts (name ∷ units ∷ []) = LineAnswer.Refused IllFormed
-of_parts (name ∷ units ∷ text ∷ more ∷ rest) = LineAnswer.Refused IllFormed
+of_parts [] = Err IllFormed
+of_parts (name ∷ []) = Err IllFormed
+of_parts (name ∷ units ∷ []) = Err IllFormed
+of_parts (name ∷ units ∷ text ∷ more ∷ rest) = Err IllFormed
 
 -- a line over 255 bytes is refused before all else
 unfoldable pub line_answer : List ℕ → LineAnswer
-line_answer line = cond (leb (length line) 255) (of_parts (parted line)) (LineAnswer.Refused TextTooLong)
+line_answer line = cond (leb (length line) 255) (of_parts (parted line)) (Err TextTooLong)
 
 -- ---- what is printed
 
@@ -84,8 +87,8 @@ newline = bytes "\n"
 
 -- ISO text, and a word where the instant is not exact; or the number of the refusal
 abbrev pub answer_text : LineAnswer → List ℕ
-answer_text (LineAnswer.Shows c t exact) = text_of (fields_in c t) ++ rounded_text exact
-answer_text (LineAnswer.Refused r) = refused_text r
+answer_text (Ok s) = text_of (fields_in s.calendar s.instant) ++ rounded_text s.exact
+answer_text (Err r) = refused_text r
 
 unfoldable pub line_text : List ℕ → List ℕ
 line_text line = answer_text (line_answer line) ++ newline

@@ -7,103 +7,83 @@ ghost use Rattle.std.proofs.Math.Option.{some};
 ghost use Rattle.instant.specs.Instant.{in_range};
 ghost use Rattle.grammar.specs.Rules.{bytes as bytes_of};
 ghost use Rattle.iso_form.specs.Form.{two_digits, length_answer, over};
-ghost use Rattle.listing_line.specs.Line.{line_reading, with_offset, line_answer, refused_text, rounded_text, newline, answer_text, line_text};
-ghost use Rattle.listing_line.specs.declared.LineAnswer.{LineAnswer as Answer};
+ghost use Rattle.listing_line.specs.Line.{with_offset, line_answer, refused_text, rounded_text, newline, answer_text, line_text};
 ghost use Rattle.listing_line.specs.Closed.{BarsOf};
 
-use axis_text::AxisAnswer;
-use axis_types::{Offset, Reading};
+use axis_types::Offset;
 use byte_slices::find;
 use calendar::Calendar;
-use iso_form::LengthAnswer;
-use offset_text::OffsetText;
 use refusal::Refusal;
 
-// What a line answers: an instant of a calendar and whether it is exact, or a refusal.
+// What a line shows: an instant of a calendar, and whether it is the exact time.
 #[derive(Clone, Copy)]
-pub enum LineAnswer {
-    Shows(Calendar, i64, bool),
-    Refused(Refusal),
-}
-
-// Where the bars of a line stand.
-#[derive(Clone, Copy)]
-pub enum Bars {
-    Two(usize, usize),
-    Other,
+pub struct Shown {
+    pub calendar: Calendar,
+    pub instant: i64,
+    pub exact: bool,
 }
 
 // The places of the bars, where there are exactly two.
-fn bars_of(line: &[u8]) -> Bars
+fn bars_of(line: &[u8]) -> Option<(usize, usize)>
     ensures { BarsOf line.now result }
 {
     let n = line.len();
-    let a = find(line, 0, n, 124);
+    let a = find(line, 0, n, b'|');
     if a == n {
-        return Bars::Other;
+        return None;
     }
-    let b = find(line, a + 1, n, 124);
+    let b = find(line, a + 1, n, b'|');
     if b == n {
-        return Bars::Other;
+        return None;
     }
-    if find(line, b + 1, n, 124) == n {
-        return Bars::Two(a, b);
+    if find(line, b + 1, n, b'|') == n {
+        return Some((a, b));
     }
-    return Bars::Other;
-}
-
-fn of_reading(c: Calendar, r: Reading) -> LineAnswer
-    ensures { result ≡ line_reading c r }
-{
-    match r {
-        Reading::At(t, exact) => return LineAnswer::Shows(c, t, exact),
-        Reading::Refused(r) => return LineAnswer::Refused(r),
-    }
+    None
 }
 
 // The answer of an offset on the axis of a calendar name and a units text, with the cutover of 1582.
-fn read_parts(name: &[u8], units: &[u8], offset: Offset) -> LineAnswer
+fn read_parts(name: &[u8], units: &[u8], offset: Offset) -> Result<Shown, Refusal>
     ensures { result ≡ with_offset name.now units.now (some offset) }
 {
-    match axis_text::read_units(name, cutover::first_cutover(), units) {
-        AxisAnswer::Refused(r) => return LineAnswer::Refused(r),
-        AxisAnswer::Is(axis) => {
-            let c = axis.calendar;
-            let reading = axis::read(axis, offset).reading;
-            return of_reading(c, reading);
-        }
-    }
+    let axis = axis_text::read_units(name, cutover::first_cutover(), units)?;
+    let reading = axis::read(axis, offset)?;
+    Ok(Shown {
+        calendar: axis.calendar,
+        instant: reading.instant,
+        exact: reading.exact,
+    })
 }
 
 // What a line answers, its newline left out.
-pub fn read_line(line: &[u8]) -> LineAnswer
+pub fn read_line(line: &[u8]) -> Result<Shown, Refusal>
     ensures { result ≡ line_answer line.now }
 {
     if 255 < line.len() {
-        return LineAnswer::Refused(Refusal::TextTooLong);
+        return Err(Refusal::TextTooLong);
     }
-    let Bars::Two(a, b) = bars_of(line) else {
-        return LineAnswer::Refused(Refusal::IllFormed);
+    let Some((a, b)) = bars_of(line) else {
+        return Err(Refusal::IllFormed);
     };
     let start: usize = 0;
     let units = a + 1;
     let offset = b + 1;
-    let OffsetText::Read(offset) = offset_text::read_offset(&line[offset..]) else {
-        return LineAnswer::Refused(Refusal::IllFormed);
+    let Some(offset) = offset_text::read_offset(&line[offset..]) else {
+        return Err(Refusal::IllFormed);
     };
     return read_parts(&line[start..a], &line[units..b], offset);
 }
 
 // Puts a text at the front of the room, where there is room for it.
-fn put(text: &[u8], room: &mut [u8]) -> LengthAnswer
+fn put(text: &[u8], room: &mut [u8]) -> Result<usize, Refusal>
     ensures value { result ≡ length_answer text.now room.old }
     ensures room_after { room.new ≡ over text.now room.old }
 {
     if room.len() < text.len() {
-        return LengthAnswer::Refused(Refusal::NoRoom);
+        return Err(Refusal::NoRoom);
     }
     let n = byte_slices::copy(text, room);
-    return LengthAnswer::Is(n);
+    return Ok(n);
 }
 
 fn one_digit(n: u32) -> [u8; 10]
@@ -131,7 +111,7 @@ fn two_digits(n: u32) -> [u8; 11]
     ]
 }
 
-fn put_refused(r: Refusal, room: &mut [u8]) -> LengthAnswer
+fn put_refused(r: Refusal, room: &mut [u8]) -> Result<usize, Refusal>
     ensures value { result ≡ length_answer (refused_text r ++ newline) room.old }
     ensures room_after { room.new ≡ over (refused_text r ++ newline) room.old }
 {
@@ -157,37 +137,35 @@ fn put_end(exact: bool, room: &mut [u8]) -> usize
 }
 
 // Puts ISO text and what stands after it into room that is long enough.
-fn put_instant(c: Calendar, t: i64, exact: bool, room: &mut [u8]) -> usize
-    requires t_value { in_range c t ≡ true }
+fn put_instant(shown: Shown, room: &mut [u8]) -> usize
+    requires t_value { in_range shown.calendar shown.instant ≡ true }
     requires in_bounds { 37 ≤ length room.old }
-    ensures value { result ≡ length (answer_text (Answer.Shows c t exact) ++ newline) }
-    ensures room_after { room.new ≡ over (answer_text (Answer.Shows c t exact) ++ newline) room.old }
+    ensures value { result ≡ length (answer_text (Ok shown) ++ newline) }
+    ensures room_after { room.new ≡ over (answer_text (Ok shown) ++ newline) room.old }
 {
-    let LengthAnswer::Is(n) = iso_text::write_iso(c, t, room) else {
-        return 0;
-    };
-    return n + put_end(exact, &mut room[n..]);
+    let n = iso_text::write_iso(shown.calendar, shown.instant, room).unwrap();
+    n + put_end(shown.exact, &mut room[n..])
 }
 
-fn put_shown(c: Calendar, t: i64, exact: bool, room: &mut [u8]) -> LengthAnswer
-    requires { in_range c t ≡ true }
-    ensures value { result ≡ length_answer (answer_text (Answer.Shows c t exact) ++ newline) room.old }
-    ensures room_after { room.new ≡ over (answer_text (Answer.Shows c t exact) ++ newline) room.old }
+fn put_shown(shown: Shown, room: &mut [u8]) -> Result<usize, Refusal>
+    requires { in_range shown.calendar shown.instant ≡ true }
+    ensures value { result ≡ length_answer (answer_text (Ok shown) ++ newline) room.old }
+    ensures room_after { room.new ≡ over (answer_text (Ok shown) ++ newline) room.old }
 {
     let mut text = [0u8; 37];
-    let n = put_instant(c, t, exact, &mut text);
+    let n = put_instant(shown, &mut text);
     let start: usize = 0;
     return put(&text[start..n], room);
 }
 
 // Puts what is printed for a line, its newline too, at the front of the room, and answers how many bytes these are. Room beyond them
 // keeps its bytes; room that is too short is refused, and keeps all of them. 37 bytes are enough for any line.
-pub fn answer(line: &[u8], room: &mut [u8]) -> LengthAnswer
+pub fn answer(line: &[u8], room: &mut [u8]) -> Result<usize, Refusal>
     ensures value { result ≡ length_answer (line_text line.now) room.old }
     ensures room_after { room.new ≡ over (line_text line.now) room.old }
 {
     match read_line(line) {
-        LineAnswer::Refused(r) => return put_refused(r, room),
-        LineAnswer::Shows(c, t, exact) => return put_shown(c, t, exact, room),
+        Err(r) => put_refused(r, room),
+        Ok(shown) => put_shown(shown, room),
     }
 }

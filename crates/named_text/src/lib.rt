@@ -6,20 +6,18 @@
 ghost use Rattle.std.specs.Prelude.{◌≡◌};
 ghost use Rattle.named_text.specs.Texts.{text_calendar};
 
-use calendar::Date;
-use calendar_name::CalendarNamed;
-use cutover::CalendarAnswer;
+use calendar::{Calendar, Date};
 use refusal::Refusal;
 
 // The calendar in which a text is read.
-pub fn text_calendar(name: &[u8], x: Date, text: &[u8]) -> CalendarAnswer
+pub fn text_calendar(name: &[u8], x: Date, text: &[u8]) -> Result<Calendar, Refusal>
     ensures { result ≡ text_calendar name.now x text.now }
 {
     if 128 < text.len() {
-        return CalendarAnswer::Refused(Refusal::TextTooLong);
+        return Err(Refusal::TextTooLong);
     }
-    let CalendarNamed::Is(c) = calendar_name::calendar_of(name) else {
-        return CalendarAnswer::Refused(Refusal::UnknownCalendar);
+    let Some(c) = calendar_name::calendar_of(name) else {
+        return Err(Refusal::UnknownCalendar);
     };
     cutover::with_cutover(c, x)
 }

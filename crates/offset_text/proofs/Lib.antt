@@ -1,3 +1,4 @@
 pub mod Digits
 pub mod Rule
 pub mod Texts
+pub mod Signs

@@ -1,13 +1,13 @@
 -- The text of an offset as grammar data: document 01, "The listing program".
-use Rattle.std.specs.Prelude.{ℕ, ◌+◌, ◌-◌, ◌*◌, ◌^◌, cond, List, [], ◌∷◌, ◌++◌, leb, eqb, pos, neg_ℤ, length}
+use Rattle.std.specs.Prelude.{ℕ, ◌+◌, ◌-◌, ◌*◌, ◌^◌, cond, List, [], ◌∷◌, ◌++◌, leb, eqb, pos, neg_ℤ, length, Option as Answer}
 use Prim.Native.Char.{code}
 use Rattle.std.proofs.Math.Option.{Option, none, some}
 use Rattle.std.specs.Float.{binary64}
 use Rattle.std.specs.Float.Ieee.{of_bits}
+use Rattle.grammar.specs.Answers.{answer}
 use Rattle.grammar.specs.Grammar.{Class, within, Grammar, run, ◌or◌, give}
 use Rattle.grammar.specs.Rules.{◌⇒◌, range, char, digit, decimal}
 use Rattle.axis_types.specs.declared.Offset.{Offset}
-use Rattle.offset_text.specs.declared.OffsetText.{OffsetText}
 
 -- ---- a whole offset: 1 to 19 digits, after a minus or none. A signed number of 64 bits lies from -2 ^ 63 to 2 ^ 63 - 1
 
@@ -51,6 +51,5 @@ abbrev pub offset : Grammar Offset
 offset = char "x" ⇒ bits or char "-" ⇒ negative or positive
 
 -- the answer to a text
-abbrev pub offset_answer : Option Offset → OffsetText
-offset_answer none = OffsetText.IllFormed
-offset_answer (some o) = OffsetText.Read o
+abbrev pub offset_answer : Option Offset → Answer Offset
+offset_answer o = answer o

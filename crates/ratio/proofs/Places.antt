@@ -1,7 +1,7 @@
 -- The place of a number among the multiples.
-use Rattle.std.proofs.Common.{◌≡◌, ℕ, ◌+◌, ◌-◌, ◌*◌, ◌%◌, ◌^◌, ◌<◌, ◌≤◌, sym, refl, ap, ◌∙◌, subst, mul-le-mul_right, add-mul, le-mul_of_pos_right, le_of_mul-le-mul_right, arith}
+use Rattle.std.proofs.Common.{◌≡◌, ℕ, ◌+◌, ◌-◌, ◌*◌, ◌%◌, ◌^◌, ◌<◌, ◌≤◌, sym, refl, ap, ◌∙◌, mul-le-mul_right, add-mul, le-mul_of_pos_right, le_of_mul-le-mul_right, arith}
 use lib.Bits.{bit_or, or_add_and, and_le_l, and_le_r}
-use Rattle.ratio.specs.Multiples.{Place, Steps, reciprocal_of, IsRatio, Good, IsMultiple}
+use Rattle.ratio.specs.Multiples.{Place, Steps, Good, IsMultiple}
 use Rattle.ratio.specs.declared.Ratio.{Ratio}
 
 -- at most below + above steps
@@ -22,25 +22,25 @@ module _ {from to below above : ℕ} (s : Steps from to below above) where
   steps_fit_to i h = omega (arith, steps_le to below above i h, s.least_to, s.greatest_to)
 
 -- ---- u is sought among the multiples: v lies between the least multiple and u, and n is the times that are found in it
-module _ (r : Ratio) (g : Good r) (u : ℕ) where
-  abbrev first : ℕ
+module _ (r : Ratio) (u : ℕ) where
+  abbrev pub first : ℕ
   first = 9223372036854775808 - r.below * r.from
 
   abbrev span : ℕ
   span = (r.below + r.above) * r.from
 
-  pub span_fits : span < 18446744073709551616
-  span_fits = steps_fit g.steps (r.below + r.above) (omega arith)
-
   pub from_first : (i : ℕ) → Place r.from r.below r.above u i → (first ≤ u) × (u - first ≡ i * r.from)
-  from_first i p = (omega (arith, p.is, g.steps.least), omega (arith, p.is, g.steps.least))
+  from_first i p = (omega (arith, p.is, r.steps.least), omega (arith, p.is, r.steps.least))
 
   pub place_is : (n : ℕ) → ((i : ℕ) → u - first ≡ i * r.from → n ≡ i) → (i : ℕ) → Place r.from r.below r.above u i → n ≡ i
   place_is n times i p = times i (from_first i p).1
 
+  pub exchange_fits : (n : ℕ) → ((i : ℕ) → u - first ≡ i * r.from → n ≡ i) → IsMultiple r u → 9223372036854775808 - r.below * r.to + n * r.to < 18446744073709551616
+  exchange_fits n f p = steps_fit_to r.steps n (omega (arith, place_is n f p.0 p.1, p.1.inside))
+
   module _ (v : ℕ) (small : v < 2 ^ 64) (wraps : (v + first) % 2 ^ 64 ≡ u) where
     between_is : (i : ℕ) → Place r.from r.below r.above u i → v ≡ i * r.from
-    between_is i p = let e = from_first i p in omega (arith, wraps, e.0, e.1, steps_fit g.steps i p.inside)
+    between_is i p = let e = from_first i p in omega (arith, wraps, e.0, e.1, steps_fit r.steps i p.inside)
 
     pub past_last : span < v → IsMultiple r u → ⊥
     past_last h p = omega (arith, between_is p.0 p.1, mul-le-mul_right r.from p.1.inside)
@@ -51,23 +51,13 @@ module _ (r : Ratio) (g : Good r) (u : ℕ) where
 
     pub found : (n : ℕ) → v ≤ span → n * r.from ≡ v → IsMultiple r u
     found n h e =
-        let k : n ≤ r.below + r.above = le_of_mul-le-mul_right {k = r.from} (omega arith) g.steps.positive in
+        let k : n ≤ r.below + r.above = le_of_mul-le-mul_right {k = r.from} (omega arith) r.steps.positive in
         let s = add-mul r.below r.above r.from in
-        (n, record { inside = k; is = omega (arith, wraps, e, s, g.steps.least, g.steps.greatest) })
+        (n, record { inside = k; is = omega (arith, wraps, e, s, r.steps.least, r.steps.greatest) })
 
--- a ratio of known steps
-pub good : {r : Ratio} {from to below above : ℕ} → IsRatio r from to below above → Good r
-good {r} {from} {to} {below} {above} q =
-    record {
-      from_is = refl;
-      to_is = refl;
-      below_is = refl;
-      above_is = refl;
-      reciprocal = q.reciprocal ∙ ap reciprocal_of (sym q.from_is);
-      steps =
-          subst (λ (f : ℕ). Steps f r.to r.below r.above) (sym q.from_is)
-          (subst (λ (t : ℕ). Steps from t r.below r.above) (sym q.to_is) (subst (λ (b : ℕ). Steps from to b r.above) (sym q.below_is) (subst (Steps from to below) (sym q.above_is) q.steps)));
-    }
+-- every ratio is one of its own steps
+pub good : (r : Ratio) → Good r
+good r = record { from_is = refl; to_is = refl; below_is = refl; above_is = refl; reciprocal = r.inverse; steps = r.steps }
 
 -- ---- bounds
 -- what is joined is at least as great as each part of it

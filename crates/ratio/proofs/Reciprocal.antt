@@ -1,12 +1,9 @@
 -- The reciprocal of k is 2^64 / k, rounded up: the high word of its product with i * k is i.
-use Rattle.std.proofs.Common.{◌≡◌, ℕ, ◌+◌, ◌-◌, ◌*◌, ◌/◌, ◌%◌, ◌^◌, ◌<◌, ◌≤◌, ap, ◌∙◌, mod-lt, mul_assoc, mul_comm, mul-le-mul_left, div-add-mod', mul-one, mul-add, div-mul-le_self, arith}
+use Rattle.std.proofs.Common.{◌≡◌, ℕ, ◌+◌, ◌-◌, ◌*◌, ◌/◌, ◌%◌, ◌^◌, ◌<◌, ◌≤◌, ap, ◌∙◌, mod-lt, mul_assoc, mul_comm, mul-le-mul_left, div-add-mod', mul-one, mul-add, arith}
 
 module _ (k : ℕ) (least : 2 ≤ k) where
   abbrev reciprocal : ℕ
   reciprocal = 18446744073709551615 / k + 1
-
-  pub reciprocal_fits : reciprocal < 2 ^ 64
-  reciprocal_fits = let q = 18446744073709551615 / k in omega (arith, mul-le-mul_left q least, div-mul-le_self 18446744073709551615 k)
 
   -- what rounding up adds
   abbrev excess : ℕ

@@ -1,26 +1,9 @@
 -- The multiples of a step among the signed 64-bit numbers, from -below times the step to above times it. Numbers have their bias of 2^63 here.
 -- No promise to a caller of the library rests on it.
-use Rattle.std.specs.Prelude.{◌≡◌, ℕ, ◌+◌, ◌*◌, ◌/◌, ◌<◌, ◌≤◌, cond, nat_lt}
+use Rattle.std.specs.Prelude.{◌≡◌, ℕ, ◌<◌, ◌≤◌}
+pub use Rattle.ratio.specs.Steps.{Place, Steps, reciprocal_of}
 use Rattle.ratio.specs.declared.Ratio.{Ratio}
 use Rattle.ratio.specs.declared.Bounds.{Bounds}
-
--- u is the number i - below times the step
-pub record Place (step below above u i : ℕ) : Type 0 where
-  pub inside : i ≤ below + above
-  pub is : u + below * step ≡ 9223372036854775808 + i * step
-
--- the multiples lie in 64 bits
-pub record Steps (from to below above : ℕ) : Type 0 where
-  pub positive : 0 < from
-  pub positive_to : 0 < to
-  pub least : below * from ≤ 9223372036854775808
-  pub greatest : above * from < 9223372036854775808
-  pub least_to : below * to ≤ 9223372036854775808
-  pub greatest_to : above * to < 9223372036854775808
-
--- 2^64 divided by the step, rounded up
-abbrev pub reciprocal_of : ℕ → ℕ
-reciprocal_of step = cond (nat_lt step 2) 0 (18446744073709551615 / step + 1)
 
 pub record IsRatio (r : Ratio) (from to below above : ℕ) : Type 0 where
   pub from_is : r.from ≡ from

@@ -5,7 +5,10 @@
 
 ghost use Rattle.std.specs.Prelude.{◌≡◌, ℕ, ◌+◌, ◌-◌, ◌*◌, ◌≤◌, true, false};
 ghost use Rattle.signed.specs.Bias.{biased};
-ghost use Rattle.ratio.specs.Multiples.{Steps, Place, reciprocal_of, IsRatio, Good, IsMultiple, AroundZero, Between, IsBounds};
+ghost use Rattle.ratio.specs.Steps.{Steps, Place, reciprocal_of};
+
+// 0 among the numbers with their bias.
+const ZERO: u64 = 1 << 63;
 
 #[derive(Clone, Copy)]
 pub struct Ratio {
@@ -14,109 +17,110 @@ pub struct Ratio {
     pub below: u64,
     pub above: u64,
     pub reciprocal: u64,
+    pub ghost steps: { Steps from to below above },
+    pub ghost inverse: { reciprocal ≡ reciprocal_of from },
 }
 
 // 2^64 divided by the step, rounded up; 0 for the step 1, which is not sought by it.
 fn reciprocal_of(step: u64) -> u64
     ensures { result ≡ reciprocal_of step }
 {
-    if step < 2 {
-        return 0;
+    if step < 2 { 0 } else { u64::MAX / step + 1 }
+}
+
+impl Ratio {
+    ghost use Rattle.ratio.specs.Multiples.{IsRatio, IsMultiple, IsBounds};
+
+    pub fn new(from: u64, to: u64, below: u64, above: u64) -> Ratio
+        requires { Steps from to below above }
+        ensures { IsRatio result from to below above }
+    {
+        let reciprocal = reciprocal_of(from);
+        Ratio {
+            from,
+            to,
+            below,
+            above,
+            reciprocal,
+        }
     }
-    return 0xffff_ffff_ffff_ffff / step + 1;
-}
 
-pub fn ratio_of(from: u64, to: u64, below: u64, above: u64) -> Ratio
-    requires { Steps from to below above }
-    ensures { IsRatio result from to below above }
-{
-    let reciprocal = reciprocal_of(from);
-    Ratio {
-        from,
-        to,
-        below,
-        above,
-        reciprocal,
+    // The ratio that exchanges the other way.
+    pub fn turned(self) -> Ratio
+        ensures { IsRatio result self.to self.from self.below self.above }
+    {
+        Ratio::new(self.to, self.from, self.below, self.above)
+    }
+
+    // Of a multiple v of the step, how many times the step it is. Of another number it is not more than of the greatest multiple.
+    fn times_in(self, v: u64) -> u64
+        ensures found { (i : ℕ) → v ≡ i * self.from → result ≡ i }
+        ensures bounded { v ≤ (self.below + self.above) * self.from → result ≤ self.below + self.above }
+    {
+        if self.from == 1 {
+            v
+        } else {
+            rounding::high_product(v, self.reciprocal)
+        }
+    }
+
+    // Whether x is one of the multiples.
+    pub fn has(self, x: i64) -> bool
+        ensures found { result ≡ true → IsMultiple self (biased x) }
+        ensures missed { result ≡ false → IsMultiple self (biased x) → ⊥ }
+    {
+        let first = ZERO - self.below * self.from;
+        // below the least multiple this wraps, and is greater than all of them
+        let v = signed::biased(x).wrapping_sub(first);
+        v <= (self.below + self.above) * self.from && self.times_in(v) * self.from == v
+    }
+
+    // What x is exchanged for, which is one of the multiples.
+    pub fn exchanged(self, x: i64) -> i64
+        requires { IsMultiple self (biased x) }
+        ensures { (i : ℕ) → Place self.from self.below self.above (biased x) i → Place self.to self.below self.above (biased result) i }
+    {
+        if self.from == self.to {
+            return x;
+        }
+        let first = ZERO - self.below * self.from;
+        let n = self.times_in(signed::biased(x) - first);
+        signed::unbiased(ZERO - self.below * self.to + n * self.to)
+    }
+
+    // Bounds between which every number is one of the multiples: of the step 1 all of them, of another only 0.
+    pub fn bounds(self) -> Bounds
+        ensures { IsBounds self result }
+    {
+        if self.from == 1 {
+            return Bounds {
+                low: ZERO - self.below,
+                high: ZERO + self.above,
+            };
+        }
+        Bounds {
+            low: ZERO,
+            high: ZERO,
+        }
     }
 }
 
-// The ratio that exchanges the other way.
-pub fn turned(r: Ratio) -> Ratio
-    requires { Good r }
-    ensures { IsRatio result r.to r.from r.below r.above }
-{
-    ratio_of(r.to, r.from, r.below, r.above)
-}
-
-// Of a multiple v of the step, how many times the step it is. Of another number it is not more than of the greatest multiple.
-fn times_in(r: Ratio, v: u64) -> u64
-    requires { Good r }
-    ensures found { (i : ℕ) → v ≡ i * r.from → result ≡ i }
-    ensures bounded { v ≤ (r.below + r.above) * r.from → result ≤ r.below + r.above }
-{
-    if r.from == 1 {
-        return v;
-    }
-    return rounding::high_product(v, r.reciprocal);
-}
-
-// Whether x is one of the multiples.
-pub fn has(r: Ratio, x: i64) -> bool
-    requires { Good r }
-    ensures found { result ≡ true → IsMultiple r (biased x) }
-    ensures missed { result ≡ false → IsMultiple r (biased x) → ⊥ }
-{
-    let first = 0x8000_0000_0000_0000 - r.below * r.from;
-    // below the least multiple this wraps, and is greater than all of them
-    let v = std::num::wrapping_sub_u64(signed::biased(x), first);
-    if (r.below + r.above) * r.from < v {
-        return false;
-    }
-    return times_in(r, v) * r.from == v;
-}
-
-// What x is exchanged for, which is one of the multiples.
-pub fn exchanged(r: Ratio, x: i64) -> i64
-    requires ratio { Good r }
-    requires known { IsMultiple r (biased x) }
-    ensures { (i : ℕ) → Place r.from r.below r.above (biased x) i → Place r.to r.below r.above (biased result) i }
-{
-    if r.from == r.to {
-        return x;
-    }
-    let first = 0x8000_0000_0000_0000 - r.below * r.from;
-    let n = times_in(r, signed::biased(x) - first);
-    return signed::unbiased(0x8000_0000_0000_0000 - r.below * r.to + n * r.to);
-}
-
-// Two numbers, with their bias of 2^63.
+// Two numbers around 0, with their bias of 2^63.
 #[derive(Clone, Copy)]
 pub struct Bounds {
     pub low: u64,
     pub high: u64,
+    pub ghost at_most: { low ≤ 9223372036854775808 },
+    pub ghost at_least: { 9223372036854775808 ≤ high },
 }
 
-// Bounds between which every number is one of the multiples: of the step 1 all of them, of another only 0.
-pub fn bounds_of(r: Ratio) -> Bounds
-    requires { Good r }
-    ensures { IsBounds r result }
-{
-    if r.from == 1 {
-        return Bounds {
-            low: 0x8000_0000_0000_0000 - r.below,
-            high: 0x8000_0000_0000_0000 + r.above,
-        };
+impl Bounds {
+    ghost use Rattle.ratio.specs.Multiples.{Between};
+
+    // How far x lies above the lower bound. Below it this wraps, and is more than the bounds lie apart.
+    pub fn above_low(self, x: i64) -> u64
+        ensures { result ≤ self.high - self.low → Between self (biased x) }
+    {
+        signed::biased(x).wrapping_sub(self.low)
     }
-    return Bounds {
-        low: 0x8000_0000_0000_0000,
-        high: 0x8000_0000_0000_0000,
-    };
-}
-
-// How far x lies above the lower bound. Below it this wraps, and is more than the bounds lie apart.
-pub fn above_low(b: Bounds, x: i64) -> u64
-    requires { AroundZero b }
-    ensures { result ≤ b.high - b.low → Between b (biased x) }
-{
-    std::num::wrapping_sub_u64(signed::biased(x), b.low)
 }

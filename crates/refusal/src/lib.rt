@@ -25,7 +25,7 @@ pub enum Refusal {
     CutoverNotAllowed,
 }
 
-// The number of a refusal; 0 is kept for success.
+// The number of a refusal in the C interface; 0 is kept for success.
 pub fn number(r: Refusal) -> u32
     ensures { result ≡ number_of r }
 {

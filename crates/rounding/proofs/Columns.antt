@@ -1,75 +1,13 @@
--- The product of two words by columns in base 2 ^ 32: each column fits a word, and together they are the product.
+-- The high word of the product of two words by columns in base 2 ^ 32, as a machine without a product of 128 bits finds it.
 use mathlib.Core.Path.{◌≡◌, refl, sym, ◌∙◌, subst}
 use Prim.Native.Nat.{ℕ, ◌+◌, ◌-◌, ◌*◌, ◌/◌, ◌%◌, ◌^◌, ◌≤◌, ◌<◌}
-use native.Mathlib.Nat.{le_trans, le_of_eq, le_of_lt, lt_of_le_of_lt, mul_comm, mul_assoc, mul_left_comm, mul-add, add-mul, add_assoc, add_comm, add_left_comm, mul-le-mul, mul-le-mul_left, mul-lt-mul_of_pos_right, mod-lt, div-add-mod'}
+use native.Mathlib.Nat.{mul_comm, mul_assoc, mul_left_comm, mul-add, add-mul, add_assoc, add_comm, add_left_comm, mul-le-mul, div-add-mod'}
 use native.Mathlib.Omega.{arith}
-use lib.Pow.{pow_pos, pow-add, shr_lt}
-
--- a product fits as many bits as its factors have together
-pub product_lt : (i j : ℕ) {a b : ℕ} → a < 2 ^ i → b < 2 ^ j → a * b < 2 ^ (i + j)
-product_lt i j {a} {b} ha hb =
-    subst (λ (n : ℕ). a * b < n) (sym (pow-add 2 i j))
-    (lt_of_le_of_lt (mul-le-mul_left a (le_of_lt hb)) (mul-lt-mul_of_pos_right ha (pow_pos j)))
-
--- ---- the digits' products h, x, y and l, with their carries
-abbrev pub middle : ℕ → ℕ → ℕ → ℕ
-middle x y l = x + y + l / 2 ^ 32
-
-columns : (h x y l : ℕ) → (h + middle x y l / 2 ^ 32) * 2 ^ 64 + (middle x y l % 2 ^ 32 * 2 ^ 32 + l % 2 ^ 32) ≡ h * 2 ^ 64 + x * 2 ^ 32 + y * 2 ^ 32 + l
-columns h x y l = omega arith
+use lib.Pow.{shr_lt}
+use Rattle.rounding.proofs.Products.{product_lt}
 
 expand : (P a₀ a₁ b₀ b₁ : ℕ) → (a₁ * P + a₀) * (b₁ * P + b₀) ≡ a₁ * b₁ * (P * P) + a₁ * b₀ * P + a₀ * b₁ * P + a₀ * b₀
 expand P a₀ a₁ b₀ b₁ = simp (mul-add, add-mul, mul_assoc, mul_comm, mul_left_comm, add_assoc, add_comm, add_left_comm) refl
-
--- a digit of 31 bits times one of 32
-left_most : (x y : ℕ) → x < 2 ^ 31 → y < 2 ^ 32 → x * y ≤ (2 ^ 31 - 1) * (2 ^ 32 - 1)
-left_most x y h k = mul-le-mul (less 31 x h) (less 32 y k)
-  where
-    less : (i x : ℕ) → x < 2 ^ i → x ≤ 2 ^ i - 1
-    less i x h = omega arith
-
-module _ (a b : ℕ) (A : a < 2 ^ 63) (B : b < 2 ^ 63) where
-  abbrev a₀ : ℕ
-  a₀ = a % 2 ^ 32
-
-  abbrev a₁ : ℕ
-  a₁ = a / 2 ^ 32
-
-  abbrev b₀ : ℕ
-  b₀ = b % 2 ^ 32
-
-  abbrev b₁ : ℕ
-  b₁ = b / 2 ^ 32
-
-  pub low_lt : a₀ * b₀ < 2 ^ 64
-  low_lt = product_lt 32 32 (mod-lt a (pow_pos 32)) (mod-lt b (pow_pos 32))
-
-  pub left_le : a₁ * b₀ ≤ (2 ^ 31 - 1) * (2 ^ 32 - 1)
-  left_le = left_most a₁ b₀ (shr_lt 31 32 A) (mod-lt b (pow_pos 32))
-
-  pub right_le : a₀ * b₁ ≤ (2 ^ 31 - 1) * (2 ^ 32 - 1)
-  right_le = le_trans (le_of_eq (mul_comm a₀ b₁)) (left_most b₁ a₀ (shr_lt 31 32 B) (mod-lt a (pow_pos 32)))
-
-  pub high_lt : a₁ * b₁ < 2 ^ 62
-  high_lt = product_lt 31 31 (shr_lt 31 32 A) (shr_lt 31 32 B)
-
-  pub middle_lt : middle (a₁ * b₀) (a₀ * b₁) (a₀ * b₀) < 2 ^ 64
-  middle_lt = go (a₁ * b₀) (a₀ * b₁) (a₀ * b₀) left_le right_le low_lt
-    where
-      go : (x y l : ℕ) → x ≤ (2 ^ 31 - 1) * (2 ^ 32 - 1) → y ≤ (2 ^ 31 - 1) * (2 ^ 32 - 1) → l < 2 ^ 64 → x + y + l / 2 ^ 32 < 2 ^ 64
-      go x y l h k m = omega arith
-
-  pub sum_lt : a₁ * b₁ + middle (a₁ * b₀) (a₀ * b₁) (a₀ * b₀) / 2 ^ 32 < 2 ^ 64
-  sum_lt = go (a₁ * b₁) (middle (a₁ * b₀) (a₀ * b₁) (a₀ * b₀)) high_lt middle_lt
-    where
-      go : (h m : ℕ) → h < 2 ^ 62 → m < 2 ^ 64 → h + m / 2 ^ 32 < 2 ^ 64
-      go h m H M = omega arith
-
-  pub multiplied : (a₁ * b₁ + middle (a₁ * b₀) (a₀ * b₁) (a₀ * b₀) / 2 ^ 32) * 2 ^ 64 + (middle (a₁ * b₀) (a₀ * b₁) (a₀ * b₀) % 2 ^ 32 * 2 ^ 32 + a₀ * b₀ % 2 ^ 32) ≡ a * b
-  multiplied =
-      columns (a₁ * b₁) (a₁ * b₀) (a₀ * b₁) (a₀ * b₀)
-      ∙ sym (expand (2 ^ 32) a₀ a₁ b₀ b₁)
-      ∙ (λ i. div-add-mod' a (2 ^ 32) i * div-add-mod' b (2 ^ 32) i)
 
 -- ---- the high word of any two words, with the carries from column to column
 -- a digit times another, and a third added

@@ -1,3 +1,4 @@
 pub mod Closest
+pub mod Products
 pub mod Columns
 pub mod HighShift

@@ -13,49 +13,25 @@ pub struct Rounded {
     pub exact: bool,
 }
 
-// The number high * 2^64 + low.
-#[derive(Clone, Copy)]
-pub struct Wide {
-    pub high: u64,
-    pub low: u64,
-}
-
-// a * b, column by column in base 2^32.
-pub fn product(a: u64, b: u64) -> Wide
-    requires { (a < 2 ^ 63) × (b < 2 ^ 63) }
-    ensures { (result.high * 2 ^ 64 + result.low ≡ a * b) × (result.low < 2 ^ 64) }
+// a * b
+pub fn product(a: u64, b: u64) -> u128
+    ensures { result ≡ a * b }
 {
-    let a0 = a % 0x1_0000_0000;
-    let a1 = a / 0x1_0000_0000;
-    let b0 = b % 0x1_0000_0000;
-    let b1 = b / 0x1_0000_0000;
-    let low = a0 * b0;
-    let mid = a1 * b0 + a0 * b1 + low / 0x1_0000_0000;
-    Wide {
-        high: a1 * b1 + mid / 0x1_0000_0000,
-        low: (mid % 0x1_0000_0000) * 0x1_0000_0000 + low % 0x1_0000_0000,
-    }
+    u128::from(a) * u128::from(b)
 }
 
-// The high word of a * b. The carries go from column to column in the form that the compiler makes one instruction of.
+// The high word of a * b.
 pub fn high_product(a: u64, b: u64) -> u64
     ensures { result ≡ a * b / 2 ^ 64 }
 {
-    let a0 = a % 0x1_0000_0000;
-    let a1 = a / 0x1_0000_0000;
-    let b0 = b % 0x1_0000_0000;
-    let b1 = b / 0x1_0000_0000;
-    let low = a0 * b0;
-    let mid = a1 * b0 + low / 0x1_0000_0000;
-    let next = mid % 0x1_0000_0000 + a0 * b1;
-    a1 * b1 + mid / 0x1_0000_0000 + next / 0x1_0000_0000
+    (product(a, b) >> 64) as u64
 }
 
 // The sticky bit: 1 for every number but 0.
 fn sticky(n: u64) -> u64
     ensures { result ≡ sticky_of n }
 {
-    if n == 0 { 0 } else { 1 }
+    u64::from(n != 0)
 }
 
 // What rounding adds to a quotient whose last digit is `odd`, where a rest of 2^63 is the half: 1 above it, 0 below it, and at it 1
@@ -64,19 +40,17 @@ fn increment(rest: u64, odd: u64) -> u64
     requires { odd ≤ 1 }
     ensures { result ≡ increment_of rest odd }
 {
-    if 0x8000_0000_0000_0000 - odd < rest {
-        1
-    } else {
-        0
-    }
+    u64::from(0x8000_0000_0000_0000 - odd < rest)
 }
 
-// (high * 2^64 + low) / 2^(64 + shift), rounded. The digits that are shifted out of the high word stand at the top of `rest`, and the
-// low word is folded into a sticky bit.
-pub fn round_high(high: u64, low: u64, shift: u64) -> Rounded
+// n / 2^(64 + shift), rounded. The digits that are shifted out of the high word stand at the top of `rest`, and the low word is folded into
+// a sticky bit: shifts of n itself, of 128 bits, are slower.
+pub fn round_high(n: u128, shift: u64) -> Rounded
     requires { (1 ≤ shift) × (shift < 64) }
-    ensures { RoundedTo result (high * 2 ^ 64 + low) (2 ^ (64 + shift)) }
+    ensures { RoundedTo result n (2 ^ (64 + shift)) }
 {
+    let high = (n >> 64) as u64;
+    let low = (n % (1 << 64)) as u64;
     let whole = high >> shift;
     let rest = (high << (64 - shift)) + sticky(low);
     let more = increment(rest, whole % 2);

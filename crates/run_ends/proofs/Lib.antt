@@ -1,4 +1,3 @@
-pub mod Floats
 pub mod Pass
 pub mod Within
 pub mod Between

@@ -5,11 +5,12 @@ use mathlib.Core.List.{List, [], ◌∷◌}
 use lib.Dec.{T}
 use lib.IntN.{ℤ}
 use lib.Signed.{lt_z, le_z}
-use lib.Ieee.{Float, lt, le, ne}
+use lib.Ieee.{Float, lt, le}
 use Rattle.signed.proofs.Order.{le_refl, le_of_lt, lt_not_le, le_trans}
 use Rattle.run_ends.specs.Each.{Each}
 use Rattle.run_ends.specs.Ends.{lesser, least_from, greatest_from, all_pass, is_number}
-use Rattle.run_ends.proofs.Floats.{float_trans, float_refl, float_before, float_behind}
+use Rattle.std.proofs.lemmas.Float as Float
+use Rattle.std.proofs.lemmas.Float.{T_from_true, T_from_false}
 
 -- an order of the B that are comparable
 pub record Order (B : Type 0) (before : B → B → Bool) (AtMost : B → B → Type 0) (Comparable : B → Type 0) : Type 0 where
@@ -80,15 +81,11 @@ module _ {A B : Type 0} (number : A → B) (good : A → Bool) (before : B → B
 pub doubles : Order Float lt (λ (x y : Float). T (le x y)) (λ (x : Float). is_number x ≡ true)
 doubles =
     record {
-      from = float_trans;
-      itself = λ x h. float_refl x (equal (ne x x) h);
-      ahead = float_before;
-      behind = λ x y h g. float_behind x y (equal (ne x x) h) (equal (ne y y) g);
+      from = Float.le_trans;
+      itself = λ x h. Float.le_refl x (T_from_true _ h);
+      ahead = λ x y h. Float.le_of_lt x y (T_from_true _ h);
+      behind = λ x y h g k. Float.le_of_not-lt x y (T_from_true _ h) (T_from_true _ g) (T_from_false _ k);
     }
-  where
-    equal : (b : Bool) → not b ≡ true → b ≡ false
-    equal true h = absurd (false≢true h)
-    equal false h = refl
 
 pub wholes : Order ℤ lt_z (λ (x y : ℤ). le_z x y ≡ true) (λ (x : ℤ). T true)
 wholes = record { from = le_trans; itself = λ x h. le_refl x; ahead = le_of_lt; behind = λ x y h g e. opened (le_z y x) (sym (lt_not_le x y) ∙ e) }

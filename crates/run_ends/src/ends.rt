@@ -3,106 +3,70 @@
 ghost use Rattle.std.specs.Prelude.{◌≡◌};
 ghost use Rattle.std.specs.Float.Ieee.{lt};
 ghost use Rattle.std.specs.Int.Signed.{lt_z};
-ghost use Rattle.run_ends.specs.Ends.{lesser, greater, double_ends, whole_ends, whole_double_ends};
+ghost use Rattle.run_ends.specs.Ends.{lesser, greater, double_ends, whole_ends};
 
-use double::whole::Whole;
+use crate::Element;
 
-// The ends of a run of doubles and zero; a NaN lies in no order.
+// The ends of a run and zero.
 #[derive(Clone, Copy)]
-pub enum DoubleEnds {
-    Between { least: f64, greatest: f64 },
-    NotANumber,
+pub struct Ends<T> {
+    pub least: T,
+    pub greatest: T,
 }
 
-// The ends of a run of whole offsets and zero.
-#[derive(Clone, Copy)]
-pub struct WholeEnds {
-    pub least: i64,
-    pub greatest: i64,
+impl Ends<f64> {
+    // The ends with one double more, which is no NaN. Of two zeros the first stays, where `f64::min` may answer either.
+    fn with(self, x: f64) -> Ends<f64>
+        ensures least { result.least ≡ lesser lt x self.least }
+        ensures greatest { result.greatest ≡ greater lt x self.greatest }
+    {
+        Ends {
+            least: if x < self.least { x } else { self.least },
+            greatest: if self.greatest < x { x } else { self.greatest },
+        }
+    }
 }
 
-// The ends of a run of doubles as whole offsets, and zero; a double may be none.
-#[derive(Clone, Copy)]
-pub enum WholeDoubleEnds {
-    Between(WholeEnds),
-    NotWhole,
-}
-
-fn lesser_double(x: f64, y: f64) -> f64
-    ensures { result ≡ lesser lt x y }
-{
-    if x < y { x } else { y }
-}
-
-fn greater_double(x: f64, y: f64) -> f64
-    ensures { result ≡ greater lt x y }
-{
-    if y < x { x } else { y }
-}
-
-pub fn double_ends(source: &[f64]) -> DoubleEnds
+// The ends of a run of doubles, of which none may be a NaN, since that lies in no order.
+pub fn double_ends(source: &[f64]) -> Option<Ends<f64>>
     ensures { result ≡ double_ends source.now }
 {
-    let mut least: f64 = 0.0;
-    let mut greatest: f64 = 0.0;
-    let mut i: usize = 0;
-    while i < source.len() {
-        let x = source[i];
-        if x != x {
-            return DoubleEnds::NotANumber;
+    let mut ends = Ends {
+        least: 0.0,
+        greatest: 0.0,
+    };
+    for x in source {
+        if x.is_nan() {
+            return None;
         }
-        least = lesser_double(x, least);
-        greatest = greater_double(x, greatest);
-        i += 1;
+        ends = ends.with(*x);
     }
-    DoubleEnds::Between { least, greatest }
+    Some(ends)
 }
 
-fn lesser_whole(x: i64, y: i64) -> i64
-    ensures { result ≡ lesser lt_z x y }
-{
-    if x < y { x } else { y }
-}
-
-fn greater_whole(x: i64, y: i64) -> i64
-    ensures { result ≡ greater lt_z x y }
-{
-    if y < x { x } else { y }
-}
-
-pub fn whole_ends(source: &[i64]) -> WholeEnds
-    ensures { result ≡ whole_ends source.now }
-{
-    let mut least: i64 = 0;
-    let mut greatest: i64 = 0;
-    let mut i: usize = 0;
-    while i < source.len() {
-        let x = source[i];
-        least = lesser_whole(x, least);
-        greatest = greater_whole(x, greatest);
-        i += 1;
-    }
-    WholeEnds { least, greatest }
-}
-
-pub fn whole_double_ends(source: &[f64]) -> WholeDoubleEnds
-    ensures { result ≡ whole_double_ends source.now }
-{
-    let mut least: i64 = 0;
-    let mut greatest: i64 = 0;
-    let mut i: usize = 0;
-    while i < source.len() {
-        let one = double::whole::whole_of(source[i]);
-        match one {
-            Whole::Refused(_) => {
-                return WholeDoubleEnds::NotWhole;
-            }
-            Whole::Is(n) => {
-                least = lesser_whole(n, least);
-                greatest = greater_whole(n, greatest);
-                i += 1;
-            }
+impl Ends<i64> {
+    // The ends with one number more.
+    fn with(self, n: i64) -> Ends<i64>
+        ensures least { result.least ≡ lesser lt_z n self.least }
+        ensures greatest { result.greatest ≡ greater lt_z n self.greatest }
+    {
+        Ends {
+            least: self.least.min(n),
+            greatest: self.greatest.max(n),
         }
     }
-    WholeDoubleEnds::Between(WholeEnds { least, greatest })
+}
+
+// The ends of a run of offsets as whole numbers, if each of them is one.
+pub fn whole_ends<E: Element>(source: &[E]) -> Option<Ends<i64>>
+    ensures { result ≡ whole_ends E.whole source.now }
+{
+    let mut ends = Ends {
+        least: 0,
+        greatest: 0,
+    };
+    for x in source {
+        ends = ends.with(x.whole().ok()?);
+    }
+    Some(ends)
 }

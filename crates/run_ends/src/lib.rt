@@ -2,71 +2,101 @@
 // nothing is said. A reader may rely on specs/Ends.antt and on the theorems of proofs/Within.antt and proofs/Between.antt.
 #![tactic(auto)]
 
-ghost use Rattle.std.specs.Prelude.{◌≡◌, true, ◌&&◌};
+ghost use Rattle.std.specs.Prelude.{◌≡◌, true, ◌&&◌, ℕ, ℤ, Result, Ok};
+ghost use Rattle.refusal.specs.declared.Refusal.{Refusal};
+ghost use Rattle.axis_types.specs.declared.Axis.{Axis};
 ghost use Rattle.axis_types.specs.declared.Mode.{Mode};
-ghost use Rattle.axis_types.specs.Reading.{is_read};
+ghost use Rattle.axis_types.specs.Reading.{is_read, with_days_back, Reading};
+ghost use Rattle.double.specs.Whole.{whole_of};
 ghost use Rattle.axis.specs.Axis.{read_double_on, read_whole_on};
 ghost use Rattle.run_ends.specs.Each.{Each};
+ghost use Rattle.run_ends.specs.Ends.{AsWholes};
 
-use crate::ends::{DoubleEnds, WholeDoubleEnds, WholeEnds};
-use axis_types::{Axis, Mode, OffsetReading, Reading};
+use crate::ends::Ends;
+use axis_types::{Axis, Mode, OffsetReading};
+use refusal::Refusal;
 
 pub mod ends;
 
-fn both_read(a: OffsetReading, b: OffsetReading) -> bool
-    ensures { result ≡ (is_read a.reading && is_read b.reading) }
-{
-    let first = a.reading;
-    let second = b.reading;
-    match first {
-        Reading::Refused(_) => return false,
-        Reading::At(_, _) => match second {
-            Reading::Refused(_) => return false,
-            Reading::At(_, _) => return true,
-        },
+// What the offsets of a run are: whole numbers, or doubles.
+pub trait Element: Copy {
+    // What an axis reads one as.
+    ghost read: { Axis → Self → Reading };
+
+    // The whole number that one is.
+    ghost whole: { Self → Result ℤ Refusal };
+
+    fn read_on(self, axis: Axis) -> Result<OffsetReading, Refusal>
+        ensures { (days : ℕ) × (result ≡ with_days_back (read axis self) days) };
+
+    fn whole(self) -> Result<i64, Refusal>
+        ensures { result ≡ whole self };
+}
+
+impl Element for i64 {
+    ghost read = { read_whole_on };
+
+    ghost whole = { λ n. Ok n };
+
+    fn read_on(self, axis: Axis) -> Result<OffsetReading, Refusal> {
+        axis::read_whole(axis, self)
+    }
+
+    fn whole(self) -> Result<i64, Refusal> {
+        Ok(self)
     }
 }
 
-fn whole_ends_read(axis: Axis, ends: WholeEnds) -> bool
-    ensures { result ≡ (is_read (read_whole_on axis ends.least) && is_read (read_whole_on axis ends.greatest)) }
-{
-    let least = axis::read_whole(axis, ends.least);
-    both_read(least, axis::read_whole(axis, ends.greatest))
+impl Element for f64 {
+    ghost read = { read_double_on };
+
+    ghost whole = { whole_of };
+
+    fn read_on(self, axis: Axis) -> Result<OffsetReading, Refusal> {
+        axis::read_double(axis, self)
+    }
+
+    fn whole(self) -> Result<i64, Refusal> {
+        double::whole::whole_of(self)
+    }
 }
 
-// In fixed mode, by the order of doubles.
-fn fixed_doubles_read(axis: Axis, source: &[f64]) -> bool
+fn ends_read<E: Element>(axis: Axis, ends: Ends<E>) -> bool
+    ensures { result ≡ (is_read (E.read axis ends.least) && is_read (E.read axis ends.greatest)) }
+{
+    ends.least.read_on(axis).is_ok() && ends.greatest.read_on(axis).is_ok()
+}
+
+// By the order of doubles, in fixed mode.
+fn read_by_order(axis: Axis, source: &[f64]) -> bool
     requires { axis.mode ≡ Mode.Fixed }
     ensures { result ≡ true → Each (λ x. is_read (read_double_on axis x) ≡ true) source.now }
 {
     match ends::double_ends(source) {
-        DoubleEnds::NotANumber => return false,
-        DoubleEnds::Between { least, greatest } => {
-            let first = axis::read_double(axis, least);
-            return both_read(first, axis::read_double(axis, greatest));
-        }
+        Some(ends) => ends_read(axis, ends),
+        None => false,
     }
 }
 
-// In calendar mode, where each double must be whole, by the order of whole offsets.
-fn whole_doubles_read(axis: Axis, source: &[f64]) -> bool
-    requires { axis.mode ≡ Mode.Calendar }
-    ensures { result ≡ true → Each (λ x. is_read (read_double_on axis x) ≡ true) source.now }
+// By the order of whole numbers, where each offset must be one.
+fn read_as_wholes<E: Element>(axis: Axis, source: &[E]) -> bool
+    requires { AsWholes E.whole (E.read axis) (read_whole_on axis) }
+    ensures { result ≡ true → Each (λ x. is_read (E.read axis x) ≡ true) source.now }
 {
-    match ends::whole_double_ends(source) {
-        WholeDoubleEnds::NotWhole => return false,
-        WholeDoubleEnds::Between(ends) => return whole_ends_read(axis, ends),
+    match ends::whole_ends(source) {
+        Some(ends) => ends_read(axis, ends),
+        None => false,
     }
 }
 
 // Whether the ends show that every double is read.
+#[tactic(auto, using(crate::proofs::Between::doubles_as_wholes))]
 pub fn doubles_read(axis: Axis, source: &[f64]) -> bool
     ensures { result ≡ true → Each (λ x. is_read (read_double_on axis x) ≡ true) source.now }
 {
-    let mode = axis.mode;
-    match mode {
-        Mode::Fixed => return fixed_doubles_read(axis, source),
-        Mode::Calendar => return whole_doubles_read(axis, source),
+    match axis.mode {
+        Mode::Fixed => read_by_order(axis, source),
+        Mode::Calendar => read_as_wholes(axis, source),
     }
 }
 
@@ -74,5 +104,5 @@ pub fn doubles_read(axis: Axis, source: &[f64]) -> bool
 pub fn wholes_read(axis: Axis, source: &[i64]) -> bool
     ensures { result ≡ true → Each (λ n. is_read (read_whole_on axis n) ≡ true) source.now }
 {
-    whole_ends_read(axis, ends::whole_ends(source))
+    read_as_wholes(axis, source)
 }

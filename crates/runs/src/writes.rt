@@ -1,150 +1,73 @@
-// The pass that writes, over offsets that are all read: each instant at its own offset's place. One loop for each kind of element.
-ghost use Rattle.std.specs.Prelude.{◌≡◌, ◌≤◌, length};
+// The pass that writes, over offsets that are all read: each instant at its own offset's place. Places are counted: what a `zip` over
+// `iter_mut` writes gets no proof. That the room is enough stays a clause: it is of the two slices of a call, which nothing else holds together.
+ghost use Rattle.std.specs.Prelude.{◌≡◌, ◌≤◌, true, length};
 ghost use Rattle.axis_types.specs.declared.Mode.{Mode};
-ghost use Rattle.axis.specs.Axis.{read_double_on, read_whole_on, axis_check, step_on};
-ghost use Rattle.axis.specs.declared.AxisCheck.{AxisCheck};
+ghost use Rattle.axis_types.specs.Reading.{instant_of, is_read};
+ghost use Rattle.axis.specs.Axis.{read_double_on, read_whole_on, step_on};
 ghost use Rattle.axis.specs.declared.Step.{Step};
+ghost use Rattle.std.specs.List.{All};
+ghost use Rattle.run_ends.specs.Ends.{whole_number};
 ghost use Rattle.runs.specs.Run.{checked, rounded_count, overlaid};
-ghost use Rattle.runs.specs.declared.Check.{Check};
+ghost use Rattle.runs.specs.Passes.{ReadAsWholes, Written, Begins};
 
 use crate::element;
+use crate::good_axis::GoodAxis;
 use axis::Step;
-use axis_types::{Axis, Mode};
-use step::Part;
+use run_ends::Element;
 
 // Doubles in fixed mode, and how many were rounded.
-fn write_nearest(axis: Axis, source: &[f64], destination: &mut [i64]) -> usize
+pub fn write_nearest(on: GoodAxis, source: &[f64], destination: &mut [i64]) -> usize
     requires room { length source.now ≤ length destination.old }
-    requires good { axis_check axis ≡ AxisCheck.Good }
-    requires fixed { axis.mode ≡ Mode.Fixed }
-    requires read { checked (read_double_on axis) source.now ≡ Check.AllRead }
-    ensures counted { result ≡ rounded_count (read_double_on axis) source.now }
-    ensures written { destination.new ≡ overlaid (read_double_on axis) source.now destination.old }
+    requires fixed { on.axis.mode ≡ Mode.Fixed }
+    requires read { checked (read_double_on on.axis) source.now ≡ Ok tt }
+    ensures counted { result ≡ rounded_count (read_double_on on.axis) source.now }
+    ensures written { destination.new ≡ overlaid (read_double_on on.axis) source.now destination.old }
 {
-    let p = axis.period;
-    let scale = fixed_axis::scale_of(p);
-    let mut count: usize = 0;
-    let mut i: usize = 0;
-    while i < source.len() {
-        let one = element::nearest_instant(axis, scale, source[i]);
-        let instant = one.instant;
-        destination[i] = instant;
-        count += element::mark(one.exact);
-        i += 1;
+    let scale = fixed_axis::scale_of(on.axis.period);
+    let mut rounded = 0;
+    for (place, x) in source.iter().enumerate() {
+        let (instant, exact) = element::nearest_instant(on, scale, *x);
+        destination[place] = instant;
+        rounded += usize::from(!exact);
     }
-    count
+    rounded
 }
 
-// Whole offsets that move the time.
-fn write_times(axis: Axis, source: &[i64], destination: &mut [i64])
+// What a call makes of the whole number that each offset is, at the offset's own place.
+fn write_each<E: Element, F: Fn(i64) -> i64>(source: &[E], destination: &mut [i64], instant: F)
     requires room { length source.now ≤ length destination.old }
-    requires good { axis_check axis ≡ AxisCheck.Good }
-    requires step { step_on axis ≡ Step.Time }
-    requires read { checked (read_whole_on axis) source.now ≡ Check.AllRead }
-    ensures { destination.new ≡ overlaid (read_whole_on axis) source.now destination.old }
+    requires callable { All (λ x. F.pre instant (whole_number (E.whole x))) source.now }
+    ensures { Written (λ x t. F.post instant (whole_number (E.whole x)) t) source.now destination.old destination.new }
 {
-    let mut i: usize = 0;
-    while i < source.len() {
-        destination[i] = element::instant_by_time(axis, source[i]);
-        i += 1;
+    for (place, x) in source.iter().enumerate() {
+        destination[place] = instant(x.whole().unwrap_or(0));
     }
 }
 
-// The same of doubles in calendar mode, where a double is whole and so exact.
-fn write_double_times(axis: Axis, source: &[f64], destination: &mut [i64])
+// Offsets that are read as the whole numbers that they are.
+pub fn write_as_wholes<E: Element>(on: GoodAxis, source: &[E], destination: &mut [i64])
     requires room { length source.now ≤ length destination.old }
-    requires good { axis_check axis ≡ AxisCheck.Good }
-    requires calendar { axis.mode ≡ Mode.Calendar }
-    requires step { step_on axis ≡ Step.Time }
-    requires read { checked (read_double_on axis) source.now ≡ Check.AllRead }
-    ensures { destination.new ≡ overlaid (read_double_on axis) source.now destination.old }
+    requires wholes { ReadAsWholes (E.read on.axis) (λ x. whole_number (E.whole x)) (read_whole_on on.axis) }
+    requires read { checked (E.read on.axis) source.now ≡ Ok tt }
+    ensures { destination.new ≡ overlaid (E.read on.axis) source.now destination.old }
 {
-    let mut i: usize = 0;
-    while i < source.len() {
-        destination[i] = element::instant_by_time(axis, element::whole_number(source[i]));
-        i += 1;
-    }
-}
-
-// Whole offsets that move a part of the date.
-fn write_dates(axis: Axis, part: Part, source: &[i64], destination: &mut [i64])
-    requires room { length source.now ≤ length destination.old }
-    requires good { axis_check axis ≡ AxisCheck.Good }
-    requires step { step_on axis ≡ Step.Date part }
-    requires read { checked (read_whole_on axis) source.now ≡ Check.AllRead }
-    ensures { destination.new ≡ overlaid (read_whole_on axis) source.now destination.old }
-{
-    let start = element::start_on(axis);
-    let mut i: usize = 0;
-    while i < source.len() {
-        destination[i] = element::instant_by_part(axis, part, start, source[i]);
-        i += 1;
-    }
-}
-
-// The same of doubles, which are whole and so exact.
-fn write_double_dates(axis: Axis, part: Part, source: &[f64], destination: &mut [i64])
-    requires room { length source.now ≤ length destination.old }
-    requires good { axis_check axis ≡ AxisCheck.Good }
-    requires calendar { axis.mode ≡ Mode.Calendar }
-    requires step { step_on axis ≡ Step.Date part }
-    requires read { checked (read_double_on axis) source.now ≡ Check.AllRead }
-    ensures { destination.new ≡ overlaid (read_double_on axis) source.now destination.old }
-{
-    let start = element::start_on(axis);
-    let mut i: usize = 0;
-    while i < source.len() {
-        destination[i] = element::instant_by_part(
-            axis,
-            part,
-            start,
-            element::whole_number(source[i]),
-        );
-        i += 1;
-    }
-}
-
-// Whole offsets on any good axis.
-pub fn write_wholes(axis: Axis, source: &[i64], destination: &mut [i64])
-    requires room { length source.now ≤ length destination.old }
-    requires good { axis_check axis ≡ AxisCheck.Good }
-    requires read { checked (read_whole_on axis) source.now ≡ Check.AllRead }
-    ensures { destination.new ≡ overlaid (read_whole_on axis) source.now destination.old }
-{
-    match axis::step_on(axis) {
-        Step::Time => return write_times(axis, source, destination),
-        Step::Date(part) => return write_dates(axis, part, source, destination),
-    }
-}
-
-// Doubles in calendar mode.
-fn write_whole_doubles(axis: Axis, source: &[f64], destination: &mut [i64])
-    requires room { length source.now ≤ length destination.old }
-    requires good { axis_check axis ≡ AxisCheck.Good }
-    requires calendar { axis.mode ≡ Mode.Calendar }
-    requires read { checked (read_double_on axis) source.now ≡ Check.AllRead }
-    ensures { destination.new ≡ overlaid (read_double_on axis) source.now destination.old }
-{
-    match axis::step_on(axis) {
-        Step::Time => return write_double_times(axis, source, destination),
-        Step::Date(part) => return write_double_dates(axis, part, source, destination),
-    }
-}
-
-// Doubles on any good axis, and how many were rounded.
-pub fn write_doubles(axis: Axis, source: &[f64], destination: &mut [i64]) -> usize
-    requires room { length source.now ≤ length destination.old }
-    requires good { axis_check axis ≡ AxisCheck.Good }
-    requires read { checked (read_double_on axis) source.now ≡ Check.AllRead }
-    ensures counted { result ≡ rounded_count (read_double_on axis) source.now }
-    ensures written { destination.new ≡ overlaid (read_double_on axis) source.now destination.old }
-{
-    let mode = axis.mode;
-    match mode {
-        Mode::Fixed => return write_nearest(axis, source, destination),
-        Mode::Calendar => {
-            write_whole_doubles(axis, source, destination);
-            return 0;
+    match axis::step_on(on.axis) {
+        Step::Time => {
+            let instant = |n: i64| -> i64
+                requires time { step_on on.axis ≡ Step.Time }
+                requires read { is_read (read_whole_on on.axis n) ≡ true }
+                ensures { result ≡ instant_of (read_whole_on on.axis n) }
+            { element::instant_by_time(on, n) };
+            write_each(source, destination, instant)
+        }
+        Step::Date(part) => {
+            let start = element::start_on(on);
+            let instant = |n: i64| -> i64
+                requires begins { Begins on.axis part start }
+                requires read { is_read (read_whole_on on.axis n) ≡ true }
+                ensures { result ≡ instant_of (read_whole_on on.axis n) }
+            { element::instant_by_part(on.axis, part, start, n) };
+            write_each(source, destination, instant)
         }
     }
 }

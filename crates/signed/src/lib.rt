@@ -6,24 +6,20 @@ ghost use Rattle.std.specs.Prelude.{◌≡◌, ◌<◌, ◌^◌};
 ghost use Rattle.signed.specs.Bias.{biased, unbiased};
 ghost use Rattle.signed.specs.Sign.{with_sign};
 
+const BIAS: u64 = 1 << 63;
+
 // n + 2^63
 pub fn biased(n: i64) -> u64
     ensures { result ≡ biased n }
 {
-    if n < 0 {
-        return 0x8000_0000_0000_0000 - 1 - ((-1 - n) as u64);
-    }
-    return (n as u64) + 0x8000_0000_0000_0000;
+    n.cast_unsigned().wrapping_add(BIAS)
 }
 
 // k - 2^63
 pub fn unbiased(k: u64) -> i64
     ensures { result ≡ unbiased k }
 {
-    if k < 0x8000_0000_0000_0000 {
-        return -1 - ((0x8000_0000_0000_0000 - 1 - k) as i64);
-    }
-    return (k - 0x8000_0000_0000_0000) as i64;
+    k.wrapping_sub(BIAS).cast_signed()
 }
 
 // n, or -n.
@@ -31,9 +27,6 @@ pub fn signed_size(negative: bool, n: u64) -> i64
     requires { n < 2 ^ 63 }
     ensures { result ≡ with_sign negative n }
 {
-    if negative {
-        unbiased(0x8000_0000_0000_0000 - n)
-    } else {
-        unbiased(0x8000_0000_0000_0000 + n)
-    }
+    let size = n as i64;
+    if negative { -size } else { size }
 }

@@ -1,4 +1,5 @@
 -- What the functions compute, from the counts of months.
+use Rattle.std.specs.Prelude.{Some, None}
 use mathlib.Core.Path.{◌≡◌, refl, sym, ap, ◌∙◌}
 use mathlib.Core.Bool.{Bool, true, false, ◌&&◌, true≢false}
 use Prim.Native.Nat.{ℕ, ◌+◌, ◌-◌, ◌*◌, ◌/◌, ◌<◌, ◌≤◌}
@@ -20,7 +21,6 @@ use Rattle.step.specs.Answers.{steps_between}
 use Rattle.step.specs.Closed.{month_at, month_count, months_of, YearOf}
 use Rattle.step.specs.Steps.{YearMonth, year_month, year_month_of, month_reached, down_to, steps_down, date_down, date_after, days_back}
 use Rattle.step.specs.declared.Part.{Part}
-use Rattle.step.specs.declared.StepAnswer.{StepAnswer}
 use Rattle.step.proofs.Counts.{months_at, months_below, month_is}
 use Rattle.step.proofs.Existing.{month_kept}
 use Rattle.step.proofs.Order.{dates_rise}
@@ -132,16 +132,16 @@ module _ (c : Calendar) (x : Date) (y : ℕ) (g : YearOf c x y) where
 -- ---- the number of steps from x to d
 
 module _ (part : Part) (c : Calendar) (x d : Date) where
-  pub none : ((n : ℤ) → date_after part c n x ≡ d → ⊥) → StepAnswer.Nothing ≡ steps_between part c x d
+  pub none : ((n : ℤ) → date_after part c n x ≡ d → ⊥) → None ≡ steps_between part c x d
   unfolding steps_between
   none f = sym (found_none (λ (z : ℤ). date_after part c z x) d f)
 
-  pub found : (n b : ℕ) → b < n + 240000 → n < b + 240000 → date_after part c (sub_ℕ n b) x ≡ d → StepAnswer.Is (sub_ℕ n b) ≡ steps_between part c x d
+  pub found : (n b : ℕ) → b < n + 240000 → n < b + 240000 → date_after part c (sub_ℕ n b) x ≡ d → Some (sub_ℕ n b) ≡ steps_between part c x d
   unfolding steps_between
   found n b p q e =
       let s : sub_ℕ (n + 240000 - b) 240000 ≡ sub_ℕ n b = same_diff (n + 240000 - b) 240000 n b (omega arith) in
       let F : ℤ → Date = λ z. date_after part c z x in
-      sym (found_at F d (one_number F (dates_rise c part x)) (n + 240000 - b) (omega arith) (ap F s ∙ e) ∙ ap StepAnswer.Is s)
+      sym (found_at F d (one_number F (dates_rise c part x)) (n + 240000 - b) (omega arith) (ap F s ∙ e) ∙ ap Some s)
 
   -- no number leads to another day of the month of d than the one that is kept, nor steps by years to another month
   pub other_day : (down_to c d.year d.month x.day ≡ d.day → ⊥) → (n : ℤ) → date_after part c n x ≡ d → ⊥
@@ -153,7 +153,7 @@ module _ (part : Part) (c : Calendar) (x d : Date) where
   other_month y f n e = f (sym (ap (λ (u : Date). u.month) e) ∙ (ap (λ (p : Part). (month_reached p c n (year_month_of x)).month) y ∙ month_kept c n (year_month_of x)))
 
   module _ (y w : ℕ) (g : YearOf c x y) (h : YearOf c d w) where
-    pub found_between : (n b : ℕ) → month_count w d.month + b * months_of part ≡ month_count y x.month + n * months_of part → down_to c d.year d.month x.day ≡ d.day → StepAnswer.Is (sub_ℕ n b) ≡ steps_between part c x d
+    pub found_between : (n b : ℕ) → month_count w d.month + b * months_of part ≡ month_count y x.month + n * months_of part → down_to c d.year d.month x.day ≡ d.day → Some (sub_ℕ n b) ≡ steps_between part c x d
     found_between n b e k =
         let l = steps_few part n b (month_count y x.month) (month_count w d.month) (count_small c x y g) (count_small c d w h) e in
         found n b l.0 l.1 (sym (date_at_lem c x y g part n b (month_count w d.month) e) ∙ (ap (λ (p : YearMonth). date_down c p x.day) (month_counted c d w h) ∙ date_eq refl refl k))

@@ -1,4 +1,5 @@
 -- What is proved of steps, in one place. `part` is the month or the year, `c` any of the six calendars; z, w and n are any integers.
+use Rattle.std.specs.Prelude.{Some}
 use mathlib.Core.Path.{◌≡◌, refl, sym, ap, ◌∙◌}
 use mathlib.Core.Bool.{true, false}
 use Prim.Native.Nat.{ℕ, ◌*◌, ◌+◌, ◌/◌, ◌%◌, ◌<◌, ◌≤◌}
@@ -24,7 +25,6 @@ use Rattle.step.specs.Answers.{steps_between}
 use Rattle.step.specs.Closed.{month_at, months_of, HasNumber, YearOf}
 use Rattle.step.specs.Steps.{YearMonth, year_month, year_month_of, month_reached, down_to, steps_down, date_down, date_after, days_back}
 use Rattle.step.specs.declared.Part.{Part}
-use Rattle.step.specs.declared.StepAnswer.{StepAnswer}
 use Rattle.step.proofs.Answering.{inside, found}
 use Rattle.step.proofs.Counts as Counts
 use Rattle.step.proofs.Days.{passed_days, down_to_lem, Kept}
@@ -70,24 +70,24 @@ module _ (part : Part) (c : Calendar) where
 
   module _ (x d : Date) where
     -- the number that is answered leads to d, and is small
-    pub between_is : (n : ℤ) → steps_between part c x d ≡ StepAnswer.Is n → date_after part c n x ≡ d
+    pub between_is : (n : ℤ) → steps_between part c x d ≡ Some n → date_after part c n x ≡ d
     unfolding steps_between
     between_is n e = found_is (λ (z : ℤ). date_after part c z x) d n e
 
-    pub between_near : (n : ℤ) → steps_between part c x d ≡ StepAnswer.Is n → mag n ≤ 719999
+    pub between_near : (n : ℤ) → steps_between part c x d ≡ Some n → mag n ≤ 719999
     unfolding steps_between
     between_near n e = found_near (λ (z : ℤ). date_after part c z x) d n e
 
     -- both dates exist in the years -9999 to 9999: the n that leads to d is answered
     module _ (p : HasNumber c x) (q : HasNumber c d) where
-      pub is_between : (n : ℤ) → date_after part c n x ≡ d → steps_between part c x d ≡ StepAnswer.Is n
+      pub is_between : (n : ℤ) → date_after part c n x ≡ d → steps_between part c x d ≡ Some n
       is_between n e =
           let y = count_of (has_year_zero c) x.year p.inside (valid_year c x (valid_of c x p.there)) in
           let g : YearOf c x y.count = record { date = p; is = y.is } in
           let k = common n (pos 0) in
           let e' : date_after part c (sub_ℕ k.left k.least) x ≡ d = ap (λ (z : ℤ). date_after part c z x) k.is_left ∙ e in
           let l = (inside c x y.count g part k.left k.least (ap (λ (u : Date). in_years u.year) e' ∙ q.inside)).few in
-          sym (found part c x d k.left k.least l.0 l.1 e') ∙ ap StepAnswer.Is k.is_left
+          sym (found part c x d k.left k.least l.0 l.1 e') ∙ ap Some k.is_left
 
 -- ---- with every cutover so many are reached: from January 2000 to the month of the last day kept
 

@@ -12,8 +12,11 @@ ghost use Rattle.step.specs.Answers.{stepped_back, steps_between};
 ghost use Rattle.step.specs.Closed.{month_at, month_count, months_of, HasNumber, YearOf};
 ghost use Rattle.step.specs.Steps.{year_month, down_to, steps_down, date_down, date_after, days_back};
 
-use calendar::{Calendar, Date, YearCount};
+use calendar::{Calendar, Date};
 use refusal::Refusal;
+
+// 0 among the numbers with their bias.
+const ZERO: u64 = 1 << 63;
 
 // What a step moves: the month number or the year number of a date.
 #[derive(Clone, Copy)]
@@ -22,30 +25,12 @@ pub enum Part {
     Year,
 }
 
-// The day number that steps lead to, and the days that it was stepped back to a day that exists; or a refusal.
-#[derive(Clone, Copy)]
-pub enum DayReached {
-    Is(i64, u32),
-    Refused(Refusal),
-}
-
-// The number of steps from one date to another, or that no number of steps leads there.
-#[derive(Clone, Copy)]
-pub enum StepAnswer {
-    Is(i64),
-    Nothing,
-}
-
 // The year of a date, counted from -10000.
 pub fn year_of(c: Calendar, x: Date) -> u64
     requires { HasNumber c x }
     ensures { YearOf c x result }
 {
-    match calendar::year_count(calendar::has_year_zero(c), signed::biased(x.year)) {
-        YearCount::Is(y) => return y,
-        // no date that exists comes here
-        YearCount::Missing => return 0,
-    }
+    calendar::year_count(calendar::has_year_zero(c), signed::biased(x.year)).unwrap()
 }
 
 // ---- years, counted from -10000, and months, counted from January of that year
@@ -62,8 +47,8 @@ fn months_of(part: Part) -> u64
     ensures { result ≡ months_of part }
 {
     match part {
-        Part::Month => return 1,
-        Part::Year => return 12,
+        Part::Month => 1,
+        Part::Year => 12,
     }
 }
 
@@ -73,22 +58,19 @@ fn month_after(part: Part, i: u64, k: u64) -> u64
     ensures { result + 240000 * months_of part ≡ i + 2880000 + (k - 9223372036854535808) * months_of part }
 {
     let m = months_of(part);
-    i + (2880000 - 240000 * m) + (k - (0x8000_0000_0000_0000 - 240000)) * m
+    i + (2880000 - 240000 * m) + (k - (ZERO - 240000)) * m
 }
 
 // The least year that is not below -9999.
 fn first_year(c: Calendar) -> u64
     ensures { (result ≡ cond (has_year_zero c) 1 2) × (result ≤ 2) }
 {
-    if calendar::has_year_zero(c) {
-        return 1;
-    }
-    return 2;
+    if calendar::has_year_zero(c) { 1 } else { 2 }
 }
 
 // ---- days
 
-// A day number, and the days that it was stepped back.
+// A day number, and the days that it was stepped back to a day that exists.
 #[derive(Clone, Copy)]
 pub struct DayInMonth {
     pub number: i64,
@@ -101,22 +83,19 @@ fn day_down(c: Calendar, y: u64, month: u32, day: u32) -> DayInMonth
     ensures dated { exists c (date_down c (year_month (year_at (has_year_zero c) y) month) day) ≡ true → date_of c result.number ≡ date_down c (year_month (year_at (has_year_zero c) y) month) day }
     ensures back { result.days_back ≡ steps_down c (year_at (has_year_zero c) y) month day }
 {
-    let mut d = day;
-    while 0 < d {
-        let n = calendar::ordinal::biased_day(c, y, month, d);
-        if n != 0 {
+    for d in (1..=day).rev() {
+        if let Some(n) = calendar::ordinal::biased_day(c, y, month, d) {
             return DayInMonth {
                 number: signed::unbiased(n),
                 days_back: day - d,
             };
         }
-        d -= 1;
     }
     // no month comes here
-    return DayInMonth {
+    DayInMonth {
         number: 0,
         days_back: day,
-    };
+    }
 }
 
 // The same of month i.
@@ -129,6 +108,7 @@ fn day_in(c: Calendar, i: u64, day: u32) -> DayInMonth
 }
 
 // ---- steps from a date x of year y
+// That y is the year of x stays a clause, and no type's fact: docs/PROMISES.md promises `day_after` and `day_reached` of any such date and year.
 
 // The day number of the date n steps after x, which is known to lie in the years -9999 to 9999.
 pub fn day_after(c: Calendar, part: Part, x: Date, y: u64, n: i64) -> i64
@@ -140,26 +120,19 @@ pub fn day_after(c: Calendar, part: Part, x: Date, y: u64, n: i64) -> i64
 }
 
 // The same with the test, OutOfRange where the year lies past -9999 to 9999, and with the days stepped back.
-pub fn day_reached(c: Calendar, part: Part, x: Date, y: u64, n: i64) -> DayReached
+pub fn day_reached(c: Calendar, part: Part, x: Date, y: u64, n: i64) -> Result<DayInMonth, Refusal>
     requires { YearOf c x y }
     ensures { result ≡ stepped_back (day_answer c (date_after part c n x)) (days_back part c n x) }
 {
     let k = signed::biased(n);
-    if k < 0x8000_0000_0000_0000 - 240000 {
-        return DayReached::Refused(Refusal::OutOfRange);
-    }
-    if 0x8000_0000_0000_0000 + 240000 <= k {
-        return DayReached::Refused(Refusal::OutOfRange);
+    if k < ZERO - 240000 || ZERO + 240000 <= k {
+        return Err(Refusal::OutOfRange);
     }
     let j = month_after(part, month_count(y, x.month), k);
-    if j < 2880000 + 12 * first_year(c) {
-        return DayReached::Refused(Refusal::OutOfRange);
+    if j < 2880000 + 12 * first_year(c) || 2880000 + 240000 <= j {
+        return Err(Refusal::OutOfRange);
     }
-    if 2880000 + 240000 <= j {
-        return DayReached::Refused(Refusal::OutOfRange);
-    }
-    let d = day_in(c, j - 2880000, x.day);
-    return DayReached::Is(d.number, d.days_back);
+    Ok(day_in(c, j - 2880000, x.day))
 }
 
 // ---- steps between dates
@@ -169,7 +142,7 @@ fn difference(b: u64, a: u64) -> i64
     requires { (b < 240000) × (a < 240000) }
     ensures { result ≡ sub_ℕ b a }
 {
-    signed::unbiased(b + (0x8000_0000_0000_0000 - a))
+    signed::unbiased(b + (ZERO - a))
 }
 
 // Whether day `day` of the month of d, of year w, is d itself or is stepped back to it.
@@ -177,29 +150,20 @@ fn leads_to(c: Calendar, d: Date, w: u64, day: u32) -> bool
     requires { YearOf c d w }
     ensures { result ≡ eqb (down_to c d.year d.month day) d.day }
 {
-    if day == d.day {
-        return true;
-    }
-    return day - day_down(c, w, d.month, day).days_back == d.day;
+    day == d.day || day - day_down(c, w, d.month, day).days_back == d.day
 }
 
 // The n for which d, of year w, lies n steps after x, or that there is none.
-pub fn steps_between(c: Calendar, part: Part, x: Date, y: u64, d: Date, w: u64) -> StepAnswer
+pub fn steps_between(c: Calendar, part: Part, x: Date, y: u64, d: Date, w: u64) -> Option<i64>
     requires { YearOf c x y × YearOf c d w }
     ensures { result ≡ steps_between part c x d }
 {
     if !leads_to(c, d, w, x.day) {
-        return StepAnswer::Nothing;
+        return None;
     }
     match part {
-        Part::Month => {
-            return StepAnswer::Is(difference(month_count(w, d.month), month_count(y, x.month)));
-        }
-        Part::Year => {
-            if d.month != x.month {
-                return StepAnswer::Nothing;
-            }
-            return StepAnswer::Is(difference(w, y));
-        }
+        Part::Month => Some(difference(month_count(w, d.month), month_count(y, x.month))),
+        Part::Year if d.month == x.month => Some(difference(w, y)),
+        Part::Year => None,
     }
 }

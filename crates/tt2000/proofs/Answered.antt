@@ -1,4 +1,5 @@
 -- What a reading and a writing say: day, second and nanosecond of UTC, and the number that they make.
+use Rattle.std.specs.Prelude.{Result, Ok, Err}
 use mathlib.Core.Path.{◌≡◌, refl, sym, ap, ◌∙◌, subst}
 use mathlib.Core.Bool.{Bool, true, false, ◌&&◌, true≢false}
 use mathlib.Core.List.{List}
@@ -25,10 +26,9 @@ use Rattle.leap_seconds.proofs.OnDays.{count_is, held}
 use Rattle.leap_seconds.proofs.Moments.{InDay, reached, moment_is}
 use Rattle.tt2000.specs.Tt2000.{tt_of, start_of, utc_fields_at, after_start, read_tt2000, date_of_utc, day_second, is_utc_time, in64_bits, limited, write_tt2000}
 use Rattle.tt2000.specs.declared.UtcFields.{UtcFields}
-use Rattle.tt2000.specs.declared.UtcAnswer.{UtcAnswer}
-use Rattle.tt2000.specs.declared.Tt2000Answer.{Tt2000Answer}
 use Rattle.tt2000.proofs.Numbers.{number_at, tt_is, Limited, in_bits, too_great, limits, start_is}
 use Rattle.tt2000.proofs.Writing.{UtcTime, time_of_lem, impossible_time, impossible_date, missing, too_early, too_late, on_day_lem, before_1972}
+use Rattle.refusal.specs.declared.Refusal.{Refusal}
 
 module _ (s : List ℕ) (good : is_good s ≡ true) where
   pub l : Listed s
@@ -57,11 +57,11 @@ module _ (s : List ℕ) (good : is_good s ≡ true) where
   unfolding read_tt2000
   read_is t = rw good
 
-  pub read_as : (t : ℤ) (f : UtcFields) → read_tt2000 s t ≡ UtcAnswer.Is f → ReadAs t f
+  pub read_as : (t : ℤ) (f : UtcFields) → read_tt2000 s t ≡ Ok f → ReadAs t f
   unfolding after_start
   read_as t f h = go (t -ℤ start_of (leaps s)) refl (sym (read_is t) ∙ h)
     where
-      go : (z : ℤ) → t -ℤ start_of (leaps s) ≡ z → after_start (leaps s) z ≡ UtcAnswer.Is f → ReadAs t f
+      go : (z : ℤ) → t -ℤ start_of (leaps s) ≡ z → after_start (leaps s) z ≡ Ok f → ReadAs t f
       go (negsuc n) e k = absurd (let y : ◌≡◌ {A = ℕ} 0 1 = (cc) in omega arith)
       go (pos n) e k =
           let r = reached s l (n / 1000000000) in
@@ -79,7 +79,7 @@ module _ (s : List ℕ) (good : is_good s ≡ true) where
           }
 
   -- and back
-  pub read_of : (d q j n : ℕ) → InDay s l d q j → n < 1000000000 → read_tt2000 s (number_on d q j n) ≡ UtcAnswer.Is (utc_fields_at (moment d q) n)
+  pub read_of : (d q j n : ℕ) → InDay s l d q j → n < 1000000000 → read_tt2000 s (number_on d q j n) ≡ Ok (utc_fields_at (moment d q) n)
   unfolding after_start
   read_of d q j n i small =
       let a = (d * 86400 + q + (10 + j)) * 1000000000 + n in
@@ -90,15 +90,15 @@ module _ (s : List ℕ) (good : is_good s ≡ true) where
       let rest : (m * 1000000000 + n) % 1000000000 ≡ n = omega arith in
       read_is (number_on d q j n)
       ∙ (ap (after_start (leaps s)) z
-      ∙ (λ k. UtcAnswer.Is (utc_fields_at ((ap (moment_at (leaps s)) seconds ∙ moment_is s l d q j m i (omega (arith, i.low))) k) (rest k))))
+      ∙ (λ k. Ok (utc_fields_at ((ap (moment_at (leaps s)) seconds ∙ moment_is s l d q j m i (omega (arith, i.low))) k) (rest k))))
 
   -- ---- writing: one of the five, in their order
 
-  pub data Outcome (f : UtcFields) : Tt2000Answer → Type 0 where
-    impossible : (is_utc_time (leaps s) f && is_possible f.month f.day) ≡ false → Outcome f (Tt2000Answer.Refused ImpossibleField)
-    not_there : (is_utc_time (leaps s) f && is_possible f.month f.day) ≡ true → exists ProlepticGregorian (date_of_utc f) ≡ false → Outcome f (Tt2000Answer.Refused MissingDate)
-    early : is_utc_time (leaps s) f ≡ true → exists ProlepticGregorian (date_of_utc f) ≡ true → earlier (date_of_utc f) (date (pos 1972) 1 1) ≡ true → Outcome f (Tt2000Answer.Refused Before1972)
-    far : is_utc_time (leaps s) f ≡ true → exists ProlepticGregorian (date_of_utc f) ≡ true → earlier (date_of_utc f) (date (pos 1972) 1 1) ≡ false → in_years f.year ≡ false → Outcome f (Tt2000Answer.Refused OutOfRange)
+  pub data Outcome (f : UtcFields) : Result ℤ Refusal → Type 0 where
+    impossible : (is_utc_time (leaps s) f && is_possible f.month f.day) ≡ false → Outcome f (Err ImpossibleField)
+    not_there : (is_utc_time (leaps s) f && is_possible f.month f.day) ≡ true → exists ProlepticGregorian (date_of_utc f) ≡ false → Outcome f (Err MissingDate)
+    early : is_utc_time (leaps s) f ≡ true → exists ProlepticGregorian (date_of_utc f) ≡ true → earlier (date_of_utc f) (date (pos 1972) 1 1) ≡ true → Outcome f (Err Before1972)
+    far : is_utc_time (leaps s) f ≡ true → exists ProlepticGregorian (date_of_utc f) ≡ true → earlier (date_of_utc f) (date (pos 1972) 1 1) ≡ false → in_years f.year ≡ false → Outcome f (Err OutOfRange)
     on : (d j : ℕ) → is_utc_time (leaps s) f ≡ true → exists ProlepticGregorian (date_of_utc f) ≡ true → earlier (date_of_utc f) (date (pos 1972) 1 1) ≡ false → 730 ≤ d → date_of ProlepticGregorian (pos d) ≡ date_of_utc f → HoldsOn s d j → Outcome f (limited (number_on d (day_second f) j f.nanosecond))
 
   module _ (f : UtcFields) where
@@ -136,14 +136,14 @@ module _ (s : List ℕ) (good : is_good s ≡ true) where
     pub number : number_on day (day_second f) leaps_before f.nanosecond ≡ t
     pub fits : in64_bits t ≡ true
 
-  pub written_as : (f : UtcFields) (t : ℤ) → write_tt2000 s f ≡ Tt2000Answer.Is t → WrittenAs f t
+  pub written_as : (f : UtcFields) (t : ℤ) → write_tt2000 s f ≡ Ok t → WrittenAs f t
   written_as f t = go (outcome f)
     where
-      limited_is : {z : ℤ} {a : Tt2000Answer} → Limited z a → a ≡ Tt2000Answer.Is t → (z ≡ t) × (in64_bits t ≡ true)
+      limited_is : {z : ℤ} {a : Result ℤ Refusal} → Limited z a → a ≡ Ok t → (z ≡ t) × (in64_bits t ≡ true)
       limited_is {z} (in_bits e) k = let same : z ≡ t = (cc k) in (same, ap in64_bits (sym same) ∙ e)
       limited_is too_great k = absurd (let y : ◌≡◌ {A = ℕ} 0 1 = (cc) in omega arith)
 
-      go : {a : Tt2000Answer} → Outcome f a → a ≡ Tt2000Answer.Is t → WrittenAs f t
+      go : {a : Result ℤ Refusal} → Outcome f a → a ≡ Ok t → WrittenAs f t
       go (impossible h) k = absurd (let y : ◌≡◌ {A = ℕ} 0 1 = (cc) in omega arith)
       go (not_there h g) k = absurd (let y : ◌≡◌ {A = ℕ} 0 1 = (cc) in omega arith)
       go (early h g b) k = absurd (let y : ◌≡◌ {A = ℕ} 0 1 = (cc) in omega arith)

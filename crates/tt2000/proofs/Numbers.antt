@@ -1,4 +1,5 @@
 -- TT2000 by natural numbers: the nanoseconds from the beginning of 1970, leap seconds counted, less 946727967816000000.
+use Rattle.std.specs.Prelude.{Result, Ok, Err}
 use mathlib.Core.Path.{◌≡◌, refl, sym, ap, ◌∙◌}
 use mathlib.Core.Bool.{Bool, true, false, cond}
 use mathlib.Core.List.{List}
@@ -15,8 +16,7 @@ use Rattle.leap_seconds.specs.Closed.{CountIs}
 use Rattle.leap_seconds.proofs.Listed.{Listed}
 use Rattle.leap_seconds.proofs.OnDays.{count_is, first_holds}
 use Rattle.tt2000.specs.Tt2000.{clock_seconds, tt_of, start_of, utc_fields_at, after_start, in64_bits, limited}
-use Rattle.tt2000.specs.declared.UtcAnswer.{UtcAnswer}
-use Rattle.tt2000.specs.declared.Tt2000Answer.{Tt2000Answer}
+use Rattle.refusal.specs.declared.Refusal.{Refusal}
 
 -- the number of second t, of which n nanoseconds have passed
 abbrev pub number_at : ℕ → ℕ → ℤ
@@ -30,21 +30,21 @@ tt_is l d q n k c =
 -- ---- 64 bits
 
 module _ (k : ℕ) where
-  pub in_64 : k < 10170100004670775808 → Tt2000Answer.Is (sub_ℕ k 946727967816000000) ≡ limited (sub_ℕ k 946727967816000000)
-  in_64 h = ap (λ (b : Bool). cond b (Tt2000Answer.Is (sub_ℕ k 946727967816000000)) (Tt2000Answer.Refused OutOfRange)) (sym (by_sign (λ (z : ℤ). in64_bits z ≡ true) k 946727967816000000 (λ g. rw (le-leb (946727967816000000 - suc k) 9223372036854775807 (omega arith))) (λ g. le-leb (k - 946727967816000000) 9223372036854775807 (omega arith))))
+  pub in_64 : k < 10170100004670775808 → Ok (sub_ℕ k 946727967816000000) ≡ limited (sub_ℕ k 946727967816000000)
+  in_64 h = ap (λ (b : Bool). cond b (Ok (sub_ℕ k 946727967816000000)) (Err OutOfRange)) (sym (by_sign (λ (z : ℤ). in64_bits z ≡ true) k 946727967816000000 (λ g. rw (le-leb (946727967816000000 - suc k) 9223372036854775807 (omega arith))) (λ g. le-leb (k - 946727967816000000) 9223372036854775807 (omega arith))))
 
-  pub past_64 : 10170100004670775808 ≤ k → Tt2000Answer.Refused OutOfRange ≡ limited (sub_ℕ k 946727967816000000)
-  past_64 h = ap (λ (b : Bool). cond b (Tt2000Answer.Is (sub_ℕ k 946727967816000000)) (Tt2000Answer.Refused OutOfRange)) (sym (by_sign (λ (z : ℤ). in64_bits z ≡ false) k 946727967816000000 (λ g. absurd (omega arith)) (λ g. lt-leb (k - 946727967816000000) 9223372036854775807 (omega arith))))
+  pub past_64 : 10170100004670775808 ≤ k → Err OutOfRange ≡ limited (sub_ℕ k 946727967816000000)
+  past_64 h = ap (λ (b : Bool). cond b (Ok (sub_ℕ k 946727967816000000)) (Err OutOfRange)) (sym (by_sign (λ (z : ℤ). in64_bits z ≡ false) k 946727967816000000 (λ g. absurd (omega arith)) (λ g. lt-leb (k - 946727967816000000) 9223372036854775807 (omega arith))))
 
 -- a number is given where it fits
-pub data Limited (z : ℤ) : Tt2000Answer → Type 0 where
-  in_bits : in64_bits z ≡ true → Limited z (Tt2000Answer.Is z)
-  too_great : Limited z (Tt2000Answer.Refused OutOfRange)
+pub data Limited (z : ℤ) : Result ℤ Refusal → Type 0 where
+  in_bits : in64_bits z ≡ true → Limited z (Ok z)
+  too_great : Limited z (Err OutOfRange)
 
 pub limits : (z : ℤ) → Limited z (limited z)
 limits z = go (in64_bits z) refl
   where
-    go : (t : Bool) → in64_bits z ≡ t → Limited z (cond t (Tt2000Answer.Is z) (Tt2000Answer.Refused OutOfRange))
+    go : (t : Bool) → in64_bits z ≡ t → Limited z (cond t (Ok z) (Err OutOfRange))
     go true e = in_bits e
     go false e = too_great
 
@@ -59,11 +59,11 @@ module _ (s : List ℕ) (l : Listed s) where
   since_start k = ap (λ (z : ℤ). unbiased k -ℤ z) start_is ∙ sub_plus k 9223372036854775808 883655957816000000
 
   module _ (k : ℕ) where
-    pub before_start : k + 883655957816000000 < 9223372036854775808 → UtcAnswer.Refused Before1972 ≡ after_start (leaps s) (unbiased k -ℤ start_of (leaps s))
+    pub before_start : k + 883655957816000000 < 9223372036854775808 → Err Before1972 ≡ after_start (leaps s) (unbiased k -ℤ start_of (leaps s))
     unfolding after_start
     before_start h = sym (ap (after_start (leaps s)) (since_start k ∙ sub_low (k + 883655957816000000) 9223372036854775808 h))
 
-    pub from_start : (n : ℕ) → n + 9223372036854775808 ≡ k + 883655957816000000 → UtcAnswer.Is (utc_fields_at (moment_at (leaps s) (n / 1000000000)) (n % 1000000000)) ≡ after_start (leaps s) (unbiased k -ℤ start_of (leaps s))
+    pub from_start : (n : ℕ) → n + 9223372036854775808 ≡ k + 883655957816000000 → Ok (utc_fields_at (moment_at (leaps s) (n / 1000000000)) (n % 1000000000)) ≡ after_start (leaps s) (unbiased k -ℤ start_of (leaps s))
     unfolding after_start
     from_start n e =
         let h : k + 883655957816000000 - 9223372036854775808 ≡ n = omega arith in

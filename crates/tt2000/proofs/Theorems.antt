@@ -1,4 +1,5 @@
 -- What is proved of TT2000 with a good list of leap seconds s: there and back, order, second 60, nanosecond 0, and what is refused.
+use Rattle.std.specs.Prelude.{Result, Ok, Err}
 use mathlib.Core.Path.{◌≡◌, refl, sym, ap, ◌∙◌, subst}
 use mathlib.Core.Bool.{Bool, true, false, ◌&&◌, ◌||◌, cond, true≢false}
 use mathlib.Core.List.{List}
@@ -35,14 +36,13 @@ use Rattle.leap_seconds.proofs.Moments.{InDay, day_seconds_lem, later_day}
 use Rattle.tt2000.specs.Tt2000.{tt_of, utc_fields_at, read_tt2000, date_of_utc, day_second, is_leap_date, is_utc_time, in64_bits, limited, write_tt2000}
 use Rattle.tt2000.specs.Order.{earlier_utc}
 use Rattle.tt2000.specs.declared.UtcFields.{UtcFields}
-use Rattle.tt2000.specs.declared.UtcAnswer.{UtcAnswer}
-use Rattle.tt2000.specs.declared.Tt2000Answer.{Tt2000Answer}
 use Rattle.tt2000.proofs.Numbers.{Limited, in_bits, too_great, limits}
 use Rattle.tt2000.proofs.Writing.{Second, plain, leap, time_of_lem, on_day_lem, before_1972}
 use Rattle.tt2000.proofs.LeapDates.{eve}
 use Rattle.tt2000.proofs.Clock.{clock_order}
 use Rattle.tt2000.proofs.Times.{date_of_fields, second_of_fields, time_of_fields, in_day, fields_back}
 use Rattle.tt2000.proofs.Answered.{l, number_on, tt_on, read_as, read_of, Outcome, impossible, not_there, early, far, on, outcome, written_as}
+use Rattle.refusal.specs.declared.Refusal.{Refusal}
 
 -- ---- 64 bits
 
@@ -61,7 +61,7 @@ module _ (s : List ℕ) (good : is_good s ≡ true) where
   day_near : (d q j n : ℕ) → SFits w64 (number_on s good d q j n) → d < 2800000
   day_near d q j n = by_sign (λ (z : ℤ). SFits w64 z → d < 2800000) ((d * 86400 + q + (10 + j)) * 1000000000 + n) 946727967816000000 (λ h f. omega arith) (λ h f. omega (arith, f.sfits))
 
-  pub write_undoes_read : (t : ℤ) (f : UtcFields) → SFits w64 t → read_tt2000 s t ≡ UtcAnswer.Is f → write_tt2000 s f ≡ Tt2000Answer.Is t
+  pub write_undoes_read : (t : ℤ) (f : UtcFields) → SFits w64 t → read_tt2000 s t ≡ Ok f → write_tt2000 s f ≡ Ok t
   unfolding utc_fields_at
   write_undoes_read t f fits h =
       let r = read_as s good t f h in
@@ -77,21 +77,21 @@ module _ (s : List ℕ) (good : is_good s ≡ true) where
       let number : tt_of (leaps s) (pos d) (day_second g) r.nanosecond ≡ t = tt_on s good d (day_second g) r.leaps_before r.nanosecond r.in_day.holds ∙ (ap (λ (p : ℕ). number_on s good d p r.leaps_before r.nanosecond) (second_of_fields s (l s good) d q r.leaps_before r.nanosecond r.in_day r.small) ∙ r.number) in
       ap (write_tt2000 s) (sym r.is)
       ∙ (on_day_lem s g good (time_of_fields s (l s good) d q r.leaps_before r.nanosecond r.in_day r.small) there (pos d) late years dated
-      ∙ (ap limited number ∙ ap (λ (b : Bool). cond b (Tt2000Answer.Is t) (Tt2000Answer.Refused OutOfRange)) (bits_of_fits t fits)))
+      ∙ (ap limited number ∙ ap (λ (b : Bool). cond b (Ok t) (Err OutOfRange)) (bits_of_fits t fits)))
 
-  pub read_undoes_write : (f : UtcFields) (t : ℤ) → write_tt2000 s f ≡ Tt2000Answer.Is t → read_tt2000 s t ≡ UtcAnswer.Is f
+  pub read_undoes_write : (f : UtcFields) (t : ℤ) → write_tt2000 s f ≡ Ok t → read_tt2000 s t ≡ Ok f
   read_undoes_write f t h =
       let w = written_as s good f t h in
       let i = in_day s (l s good) f w.time w.day w.leaps_before w.holds w.low w.dated in
       ap (read_tt2000 s) (sym w.number)
       ∙ (read_of s good w.day (day_second f) w.leaps_before f.nanosecond i w.time.nanosecond
-      ∙ ap UtcAnswer.Is (fields_back s (l s good) f w.time w.day w.leaps_before w.holds w.low w.dated))
+      ∙ ap Ok (fields_back s (l s good) f w.time w.day w.leaps_before w.holds w.low w.dated))
 
-  pub written_fits : (f : UtcFields) (t : ℤ) → write_tt2000 s f ≡ Tt2000Answer.Is t → SFits w64 t
+  pub written_fits : (f : UtcFields) (t : ℤ) → write_tt2000 s f ≡ Ok t → SFits w64 t
   written_fits f t h = fits_of_bits t (written_as s good f t h).fits
 
   -- TT = UTC + count + 32.184 s: the number is that of the fields on the day of their date
-  pub number_of_fields : (t : ℤ) (f : UtcFields) → read_tt2000 s t ≡ UtcAnswer.Is f → (d : ℤ) × (date_of ProlepticGregorian d ≡ date_of_utc f) × (tt_of (leaps s) d (day_second f) f.nanosecond ≡ t)
+  pub number_of_fields : (t : ℤ) (f : UtcFields) → read_tt2000 s t ≡ Ok f → (d : ℤ) × (date_of ProlepticGregorian d ≡ date_of_utc f) × (tt_of (leaps s) d (day_second f) f.nanosecond ≡ t)
   unfolding utc_fields_at
   number_of_fields t f h =
       let r = read_as s good t f h in
@@ -135,7 +135,7 @@ module _ (s : List ℕ) (good : is_good s ≡ true) where
         ]
         ∙ sym (sub_lt x x' 946727967816000000)
 
-  pub rises : (t u : ℤ) (f g : UtcFields) → read_tt2000 s t ≡ UtcAnswer.Is f → read_tt2000 s u ≡ UtcAnswer.Is g → earlier_utc f g ≡ lt_z t u
+  pub rises : (t u : ℤ) (f g : UtcFields) → read_tt2000 s t ≡ Ok f → read_tt2000 s u ≡ Ok g → earlier_utc f g ≡ lt_z t u
   unfolding earlier_utc utc_fields_at
   rises t u f g h k =
       let r = read_as s good t f h in
@@ -159,7 +159,7 @@ module _ (s : List ℕ) (good : is_good s ≡ true) where
   -- ---- second 60
 
   -- is read only as 23:59:60 of a date before a record's day
-  pub second_60 : (t : ℤ) (f : UtcFields) → read_tt2000 s t ≡ UtcAnswer.Is f → f.second ≡ 60 → (f.hour ≡ 23) × (f.minute ≡ 59) × (is_leap_date (leaps s) (date_of_utc f) ≡ true)
+  pub second_60 : (t : ℤ) (f : UtcFields) → read_tt2000 s t ≡ Ok f → f.second ≡ 60 → (f.hour ≡ 23) × (f.minute ≡ 59) × (is_leap_date (leaps s) (date_of_utc f) ≡ true)
   second_60 t f h e =
       let r = read_as s good t f h in
       let time = subst (λ (g : UtcFields). is_utc_time (leaps s) g ≡ true) r.is (time_of_fields s (l s good) r.day r.second r.leaps_before r.nanosecond r.in_day r.small) in
@@ -198,17 +198,17 @@ module _ (s : List ℕ) (good : is_good s ≡ true) where
     leap_late : earlier (date_of_utc f) (date (pos 1972) 1 1) ≡ false
     leap_late = before_1972 (date_of_utc f) (pos leap_day.0) leap_day.2 ∙ le-ltb leap_day.0 730 leap_day.1
 
-    pub leap_second : (write_tt2000 s f ≡ Tt2000Answer.Refused OutOfRange → ⊥) → (t : ℤ) × (write_tt2000 s f ≡ Tt2000Answer.Is t)
+    pub leap_second : (write_tt2000 s f ≡ Err OutOfRange → ⊥) → (t : ℤ) × (write_tt2000 s f ≡ Ok t)
     leap_second past = go (outcome s good f) refl
       where
         clash : {b : Bool} → b ≡ true → b ≡ false → ⊥
         clash p q = true≢false (sym p ∙ q)
 
-        by_bits : {z : ℤ} {r : Tt2000Answer} → Limited z r → r ≡ write_tt2000 s f → (t : ℤ) × (write_tt2000 s f ≡ Tt2000Answer.Is t)
+        by_bits : {z : ℤ} {r : Result ℤ Refusal} → Limited z r → r ≡ write_tt2000 s f → (t : ℤ) × (write_tt2000 s f ≡ Ok t)
         by_bits {z} (in_bits g) e = (z, sym e)
         by_bits too_great e = absurd (past (sym e))
 
-        go : {r : Tt2000Answer} → Outcome s good f r → r ≡ write_tt2000 s f → (t : ℤ) × (write_tt2000 s f ≡ Tt2000Answer.Is t)
+        go : {r : Result ℤ Refusal} → Outcome s good f r → r ≡ write_tt2000 s f → (t : ℤ) × (write_tt2000 s f ≡ Ok t)
         go (impossible g) e = absurd (clash (both (is_utc_time (leaps s) f) (is_possible f.month f.day) leap_time (exists_possible ProlepticGregorian (date_of_utc f) leap_there)) g)
         go (not_there p g) e = absurd (clash leap_there g)
         go (early p g b) e = absurd (clash b leap_late)
@@ -217,7 +217,7 @@ module _ (s : List ℕ) (good : is_good s ≡ true) where
 
   -- ---- nanosecond 0
 
-  pub nanosecond_0 : count_on (leaps s) (pos 10957) ≡ pos 32 → read_tt2000 s (pos 0) ≡ UtcAnswer.Is (record { year = pos 2000; month = 1; day = 1; hour = 11; minute = 58; second = 55; nanosecond = 816000000 })
+  pub nanosecond_0 : count_on (leaps s) (pos 10957) ≡ pos 32 → read_tt2000 s (pos 0) ≡ Ok (record { year = pos 2000; month = 1; day = 1; hour = 11; minute = 58; second = 55; nanosecond = 816000000 })
   unfolding utc_fields_at
   nanosecond_0 h =
       let j = held s (l s good) 10957 (omega arith) in
@@ -225,4 +225,4 @@ module _ (s : List ℕ) (good : is_good s ≡ true) where
       let e : j.0 ≡ 22 = omega (arith, ap mag (sym count ∙ h)) in
       let i : InDay s (l s good) 10957 43135 j.0 = record { holds = j.1; low = omega arith; within = omega (arith, (day_seconds_lem (leaps s) 10957).0) } in
       let zero_at : number_on s good 10957 43135 j.0 816000000 ≡ pos 0 = ap (λ (k : ℕ). number_on s good 10957 43135 k 816000000) e in
-      ap (read_tt2000 s) (sym zero_at) ∙ (read_of s good 10957 43135 j.0 816000000 i (omega arith) ∙ ap (λ (x : Date). UtcAnswer.Is (record { year = x.year; month = x.month; day = x.day; hour = 11; minute = 58; second = 55; nanosecond = 816000000 })) day_10957)
+      ap (read_tt2000 s) (sym zero_at) ∙ (read_of s good 10957 43135 j.0 816000000 i (omega arith) ∙ ap (λ (x : Date). Ok (record { year = x.year; month = x.month; day = x.day; hour = 11; minute = 58; second = 55; nanosecond = 816000000 })) day_10957)

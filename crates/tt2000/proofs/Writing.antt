@@ -1,4 +1,5 @@
 -- What is written, by the tests that the code makes.
+use Rattle.std.specs.Prelude.{Err}
 use mathlib.Core.Path.{◌≡◌, refl, sym, ap, ◌∙◌}
 use mathlib.Core.Bool.{Bool, true, false, ◌&&◌, ◌||◌, true≢false}
 use mathlib.Core.List.{List}
@@ -23,7 +24,6 @@ use Rattle.calendar.proofs.AnyYear.{day_730}
 use Rattle.leap_seconds.specs.Leaps.{Leap, leaps, is_good}
 use Rattle.tt2000.specs.Tt2000.{tt_of, date_of_utc, day_second, is_leap_date, is_second, is_utc_time, limited, with_day, write_time, write_tt2000}
 use Rattle.tt2000.specs.declared.UtcFields.{UtcFields}
-use Rattle.tt2000.specs.declared.Tt2000Answer.{Tt2000Answer}
 
 -- ---- a time of day, part by part
 
@@ -74,15 +74,15 @@ module _ (s : List ℕ) (f : UtcFields) (good : is_good s ≡ true) where
   x = date_of_utc f
 
   -- fields that are refused by themselves
-  refused : (is_utc_time l f && exists ProlepticGregorian x) ≡ false → write_tt2000 s f ≡ Tt2000Answer.Refused (fault_with (is_utc_time l f) ProlepticGregorian x)
+  refused : (is_utc_time l f && exists ProlepticGregorian x) ≡ false → write_tt2000 s f ≡ Err (fault_with (is_utc_time l f) ProlepticGregorian x)
   unfolding write_tt2000
   refused h = rw (good, h)
 
-  pub impossible_time : is_utc_time l f ≡ false → write_tt2000 s f ≡ Tt2000Answer.Refused ImpossibleField
+  pub impossible_time : is_utc_time l f ≡ false → write_tt2000 s f ≡ Err ImpossibleField
   unfolding fault_with
   impossible_time h = refused (left_out (is_utc_time l f) (exists ProlepticGregorian x) h) ∙ rw h
 
-  pub impossible_date : is_possible f.month f.day ≡ false → write_tt2000 s f ≡ Tt2000Answer.Refused ImpossibleField
+  pub impossible_date : is_possible f.month f.day ≡ false → write_tt2000 s f ≡ Err ImpossibleField
   unfolding fault_with
   impossible_date h = refused (right_out (is_utc_time l f) (exists ProlepticGregorian x) none) ∙ rw (right_out (is_utc_time l f) (is_possible f.month f.day) h)
     where
@@ -90,7 +90,7 @@ module _ (s : List ℕ) (f : UtcFields) (good : is_good s ≡ true) where
       none = to_false (exists ProlepticGregorian x) (λ e. true≢false (sym (exists_possible ProlepticGregorian x e) ∙ h))
 
   module _ (time : is_utc_time l f ≡ true) where
-    pub missing : is_possible f.month f.day ≡ true → exists ProlepticGregorian x ≡ false → write_tt2000 s f ≡ Tt2000Answer.Refused MissingDate
+    pub missing : is_possible f.month f.day ≡ true → exists ProlepticGregorian x ≡ false → write_tt2000 s f ≡ Err MissingDate
     unfolding fault_with
     missing p e = refused (right_out (is_utc_time l f) (exists ProlepticGregorian x) e) ∙ rw (both (is_utc_time l f) (is_possible f.month f.day) time p, never_dropped x)
 
@@ -99,11 +99,11 @@ module _ (s : List ℕ) (f : UtcFields) (good : is_good s ≡ true) where
       unfolding write_tt2000
       timed = rw (good, time, there)
 
-      pub too_early : earlier x (date (pos 1972) 1 1) ≡ true → write_tt2000 s f ≡ Tt2000Answer.Refused Before1972
+      pub too_early : earlier x (date (pos 1972) 1 1) ≡ true → write_tt2000 s f ≡ Err Before1972
       too_early h = timed ∙ rw h
 
       -- the year lies past 9999
-      pub too_late : earlier x (date (pos 1972) 1 1) ≡ false → in_years f.year ≡ false → write_tt2000 s f ≡ Tt2000Answer.Refused OutOfRange
+      pub too_late : earlier x (date (pos 1972) 1 1) ≡ false → in_years f.year ≡ false → write_tt2000 s f ≡ Err OutOfRange
       too_late h y = timed ∙ rw h (ap (with_day l f) (sym (year_out true ProlepticGregorian x y)))
 
       -- the day is d

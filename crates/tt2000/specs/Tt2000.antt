@@ -1,6 +1,6 @@
 -- TT2000 and UTC: document 02, CR 6, and source document 003. A TT2000 is a count of nanoseconds from 2000-01-01T12:00:00 in Terrestrial Time,
 -- and TT = UTC + count + 32.184 s, where the count is that of a list of leap seconds.
-use Rattle.std.specs.Prelude.{Bool, ◌&&◌, ◌||◌, cond, List, ℕ, ◌+◌, ◌-◌, ◌*◌, ◌/◌, ◌%◌, ltb, eqb, ℤ, pos, negsuc, ◌+ℤ◌, ◌-ℤ◌, ◌*ℤ◌}
+use Rattle.std.specs.Prelude.{Bool, ◌&&◌, ◌||◌, cond, List, ℕ, ◌+◌, ◌-◌, ◌*◌, ◌/◌, ◌%◌, ltb, eqb, ℤ, pos, negsuc, ◌+ℤ◌, ◌-ℤ◌, ◌*ℤ◌, Result, Ok, Err}
 use Rattle.std.proofs.Math.IntN.{pred_ℤ}
 use Rattle.std.specs.Int.Signed.{le_z}
 use Rattle.refusal.specs.declared.Refusal.TheVariants.{OutOfRange, BadLeapSeconds, Before1972}
@@ -9,13 +9,11 @@ use Rattle.calendar.specs.Order.{earlier, same_date}
 use Rattle.calendar.specs.Answers.{fault_with, day_answer}
 use Rattle.calendar.specs.declared.Calendar.TheVariants.{ProlepticGregorian}
 use Rattle.calendar.specs.declared.Date.{Date}
-use Rattle.calendar.specs.declared.DayAnswer.{DayAnswer}
 use Rattle.leap_seconds.specs.Leaps.{Leap, leaps, is_good}
 use Rattle.leap_seconds.specs.Utc.{count_on, some_later, moment_at}
 use Rattle.leap_seconds.specs.declared.Moment.{Moment}
 use Rattle.tt2000.specs.declared.UtcFields.{UtcFields}
-use Rattle.tt2000.specs.declared.UtcAnswer.{UtcAnswer}
-use Rattle.tt2000.specs.declared.Tt2000Answer.{Tt2000Answer}
+use Rattle.refusal.specs.declared.Refusal.{Refusal}
 
 -- ---- TT = UTC + count + 32.184 s
 
@@ -45,16 +43,16 @@ unfoldable pub utc_fields_at : Moment → ℕ → UtcFields
 utc_fields_at m n = utc_fields (date_of ProlepticGregorian (pos m.day)) (minute_of m.second) m.second n
 
 -- so many nanoseconds after the beginning of 1972
-unfoldable pub after_start : List Leap → ℤ → UtcAnswer
-after_start l (pos n) = UtcAnswer.Is (utc_fields_at (moment_at l (n / nanoseconds)) (n % nanoseconds))
-after_start l (negsuc n) = UtcAnswer.Refused Before1972
+unfoldable pub after_start : List Leap → ℤ → Result UtcFields Refusal
+after_start l (pos n) = Ok (utc_fields_at (moment_at l (n / nanoseconds)) (n % nanoseconds))
+after_start l (negsuc n) = Err Before1972
 
 -- the TT2000 of the beginning of 1972-01-01, which is day 730
 abbrev pub start_of : List Leap → ℤ
 start_of l = tt_of l (pos 730) 0 0
 
-unfoldable pub read_tt2000 : List ℕ → ℤ → UtcAnswer
-read_tt2000 s t = cond (is_good s) (after_start (leaps s) (t -ℤ start_of (leaps s))) (UtcAnswer.Refused BadLeapSeconds)
+unfoldable pub read_tt2000 : List ℕ → ℤ → Result UtcFields Refusal
+read_tt2000 s t = cond (is_good s) (after_start (leaps s) (t -ℤ start_of (leaps s))) (Err BadLeapSeconds)
 
 -- ---- writing
 
@@ -81,23 +79,23 @@ is_utc_time l f = (ltb f.hour 24 && ltb f.minute 60) && (is_second l f && ltb f.
 abbrev pub in64_bits : ℤ → Bool
 in64_bits z = le_z (negsuc 9223372036854775807) z && le_z z (pos 9223372036854775807)
 
-abbrev pub limited : ℤ → Tt2000Answer
-limited z = cond (in64_bits z) (Tt2000Answer.Is z) (Tt2000Answer.Refused OutOfRange)
+abbrev pub limited : ℤ → Result ℤ Refusal
+limited z = cond (in64_bits z) (Ok z) (Err OutOfRange)
 
 -- on the day of the date. The calendar refuses years past 9999, and rightly here: what some 64-bit number reads as is written (`write_undoes_read`,
 -- proofs/Theorems.antt)
-abbrev pub with_day : List Leap → UtcFields → DayAnswer → Tt2000Answer
-with_day l f (DayAnswer.Is d) = limited (tt_of l d (day_second f) f.nanosecond)
-with_day l f (DayAnswer.Refused r) = Tt2000Answer.Refused r
+abbrev pub with_day : List Leap → UtcFields → Result ℤ Refusal → Result ℤ Refusal
+with_day l f (Ok d) = limited (tt_of l d (day_second f) f.nanosecond)
+with_day l f (Err r) = Err r
 
 -- a date that exists, with a time of day that it may have
-abbrev pub write_time : List Leap → UtcFields → Tt2000Answer
-write_time l f = cond (earlier (date_of_utc f) (date (pos 1972) 1 1)) (Tt2000Answer.Refused Before1972) (with_day l f (day_answer ProlepticGregorian (date_of_utc f)))
+abbrev pub write_time : List Leap → UtcFields → Result ℤ Refusal
+write_time l f = cond (earlier (date_of_utc f) (date (pos 1972) 1 1)) (Err Before1972) (with_day l f (day_answer ProlepticGregorian (date_of_utc f)))
 
 -- the list first, then the fields by themselves, then what lies before 1972, then what lies past 64 bits
-unfoldable pub write_tt2000 : List ℕ → UtcFields → Tt2000Answer
+unfoldable pub write_tt2000 : List ℕ → UtcFields → Result ℤ Refusal
 write_tt2000 s f =
     cond (is_good s)
     (cond (is_utc_time (leaps s) f && exists ProlepticGregorian (date_of_utc f)) (write_time (leaps s) f)
-    (Tt2000Answer.Refused (fault_with (is_utc_time (leaps s) f) ProlepticGregorian (date_of_utc f))))
-    (Tt2000Answer.Refused BadLeapSeconds)
+    (Err (fault_with (is_utc_time (leaps s) f) ProlepticGregorian (date_of_utc f))))
+    (Err BadLeapSeconds)

@@ -3,15 +3,14 @@
 #![tactic(auto)]
 
 ghost use Rattle.std.specs.Prelude.{◌≡◌, true, false, ◌&&◌, ◌≤◌, ◌<◌, pos};
-ghost use Rattle.leap_seconds.specs.Leaps.{is_good, leaps};
+ghost use Rattle.leap_seconds.specs.Leaps.{leaps};
 ghost use Rattle.calendar.specs.Calendar.{in_years, exists, date_of};
 ghost use Rattle.calendar.specs.declared.Calendar.TheVariants.{ProlepticGregorian};
 ghost use Rattle.tt2000.specs.Closed.{RefusedFor};
 ghost use Rattle.tt2000.specs.Tt2000.{minute_of, utc_fields_at, read_tt2000, date_of_utc, day_second, is_leap_date, is_second, is_utc_time, tt_of, limited, write_tt2000};
 
-use calendar::gregorian::DaySince;
-use calendar::{Calendar, Date, FoundDay};
-use leap_seconds::Moment;
+use calendar::{Calendar, Date};
+use leap_seconds::{LeapList, Moment};
 use refusal::Refusal;
 
 #[repr(C)]
@@ -24,20 +23,6 @@ pub struct UtcFields {
     pub minute: u32,
     pub second: u32,
     pub nanosecond: u32,
-}
-
-// The fields of a TT2000.
-#[derive(Clone, Copy)]
-pub enum UtcAnswer {
-    Is(UtcFields),
-    Refused(Refusal),
-}
-
-// The TT2000 of fields.
-#[derive(Clone, Copy)]
-pub enum Tt2000Answer {
-    Is(i64),
-    Refused(Refusal),
 }
 
 // The minute of the day that a second of it belongs to.
@@ -72,29 +57,28 @@ fn utc_fields(m: Moment, n: u64) -> UtcFields
 }
 
 // The fields of a TT2000. The beginning of 1972 is 883655957816000000 nanoseconds before 0.
-pub fn read_tt2000(s: &[u8], t: i64) -> UtcAnswer
+pub fn read_tt2000(s: &[u8], t: i64) -> Result<UtcFields, Refusal>
     ensures { result ≡ read_tt2000 s.now t }
 {
-    if !leap_seconds::is_good(s) {
-        return UtcAnswer::Refused(Refusal::BadLeapSeconds);
-    }
+    let Some(list) = LeapList::of(s) else {
+        return Err(Refusal::BadLeapSeconds);
+    };
     let k = signed::biased(t);
     if k < 0x8000_0000_0000_0000 - 883655957816000000 {
-        return UtcAnswer::Refused(Refusal::Before1972);
+        return Err(Refusal::Before1972);
     }
     let n = k - (0x8000_0000_0000_0000 - 883655957816000000);
-    let m = leap_seconds::moment_at(s, n / 1000000000);
-    return UtcAnswer::Is(utc_fields(m, n % 1000000000));
+    let m = list.moment_at(n / 1000000000);
+    return Ok(utc_fields(m, n % 1000000000));
 }
 
 // Whether a date, of any year, ends with a leap second.
-fn is_leap_date(s: &[u8], x: Date) -> bool
-    requires { is_good s.now ≡ true }
-    ensures { result ≡ is_leap_date (leaps s.now) x }
+fn is_leap_date(list: LeapList, x: Date) -> bool
+    ensures { result ≡ is_leap_date (leaps list.entry.bytes.now) x }
 {
     match calendar::gregorian::day_since_1970(x) {
-        DaySince::Nothing => return false,
-        DaySince::Is(n) => return leap_seconds::is_leap_day(s, n),
+        None => return false,
+        Some(n) => return list.is_leap_day(n),
     }
 }
 
@@ -109,9 +93,8 @@ fn date_of(f: UtcFields) -> Date
 }
 
 // Whether the second is good: 60 only as 23:59:60 of such a date.
-fn is_second(s: &[u8], f: UtcFields) -> bool
-    requires { is_good s.now ≡ true }
-    ensures { result ≡ is_second (leaps s.now) f }
+fn is_second(list: LeapList, f: UtcFields) -> bool
+    ensures { result ≡ is_second (leaps list.entry.bytes.now) f }
 {
     if f.second < 60 {
         return true;
@@ -125,13 +108,12 @@ fn is_second(s: &[u8], f: UtcFields) -> bool
     if f.second != 60 {
         return false;
     }
-    return is_leap_date(s, date_of(f));
+    return is_leap_date(list, date_of(f));
 }
 
 // Whether the time of day is one that the date may have.
-fn is_utc_time(s: &[u8], f: UtcFields) -> bool
-    requires { is_good s.now ≡ true }
-    ensures { result ≡ is_utc_time (leaps s.now) f }
+fn is_utc_time(list: LeapList, f: UtcFields) -> bool
+    ensures { result ≡ is_utc_time (leaps list.entry.bytes.now) f }
 {
     if 24 <= f.hour {
         return false;
@@ -142,37 +124,37 @@ fn is_utc_time(s: &[u8], f: UtcFields) -> bool
     if 1000000000 <= f.nanosecond {
         return false;
     }
-    return is_second(s, f);
+    return is_second(list, f);
 }
 
 // The TT2000 of the time of day of fields on a day.
-fn tt2000_on(s: &[u8], f: UtcFields, day: u64) -> Tt2000Answer
-    requires { (is_good s.now ≡ true) × (is_utc_time (leaps s.now) f ≡ true) × (730 ≤ day) × (day < 5000000) }
-    ensures { result ≡ limited (tt_of (leaps s.now) (pos day) (day_second f) f.nanosecond) }
+fn tt2000_on(list: LeapList, f: UtcFields, day: u64) -> Result<i64, Refusal>
+    requires { (is_utc_time (leaps list.bytes.now) f ≡ true) × (730 ≤ day) × (day < 5000000) }
+    ensures { result ≡ limited (tt_of (leaps list.entry.bytes.now) (pos day) (day_second f) f.nanosecond) }
 {
     let second = (f.hour as u64 * 60 + f.minute as u64) * 60 + f.second as u64;
-    let t = day * 86400 + second + leap_seconds::count_on(s, day);
+    let t = day * 86400 + second + list.count_on(day);
     // 2^63 nanoseconds after 0 is second 10170100004 and 670775808 nanoseconds from the beginning of 1970, leap seconds counted
     if 10170100004 < t {
-        return Tt2000Answer::Refused(Refusal::OutOfRange);
+        return Err(Refusal::OutOfRange);
     }
     let n = t * 1000000000 + f.nanosecond as u64;
     if 10170100004670775808 <= n {
-        return Tt2000Answer::Refused(Refusal::OutOfRange);
+        return Err(Refusal::OutOfRange);
     }
-    return Tt2000Answer::Is(signed::unbiased(n + (0x8000_0000_0000_0000 - 946727967816000000)));
+    return Ok(signed::unbiased(n + (0x8000_0000_0000_0000 - 946727967816000000)));
 }
 
 // The TT2000 of the time of day of fields on the day of their date.
-fn write_found(s: &[u8], f: UtcFields, n: i64) -> Tt2000Answer
-    requires { (is_good s.now ≡ true) × (is_utc_time (leaps s.now) f ≡ true) × ((in_years f.year && exists ProlepticGregorian (date_of_utc f)) ≡ true) × (date_of ProlepticGregorian n ≡ date_of_utc f) }
-    ensures { result ≡ write_tt2000 s.now f }
+fn write_found(list: LeapList, f: UtcFields, n: i64) -> Result<i64, Refusal>
+    requires { (is_utc_time (leaps list.bytes.now) f ≡ true) × ((in_years f.year && exists ProlepticGregorian (date_of_utc f)) ≡ true) × (date_of ProlepticGregorian n ≡ date_of_utc f) }
+    ensures { result ≡ write_tt2000 list.entry.bytes.now f }
 {
     let k = signed::biased(n);
     if k < 0x8000_0000_0000_0000 + 730 {
-        return Tt2000Answer::Refused(Refusal::Before1972);
+        return Err(Refusal::Before1972);
     }
-    return tt2000_on(s, f, k - 0x8000_0000_0000_0000);
+    return tt2000_on(list, f, k - 0x8000_0000_0000_0000);
 }
 
 // Why a date that is not found is refused: it does not exist, or its year lies past -9999 to 9999.
@@ -193,17 +175,17 @@ fn refusal_of(x: Date) -> Refusal
 }
 
 // The TT2000 of fields. A time of day that the date may not have is refused before the date.
-pub fn write_tt2000(s: &[u8], f: UtcFields) -> Tt2000Answer
+pub fn write_tt2000(s: &[u8], f: UtcFields) -> Result<i64, Refusal>
     ensures { result ≡ write_tt2000 s.now f }
 {
-    if !leap_seconds::is_good(s) {
-        return Tt2000Answer::Refused(Refusal::BadLeapSeconds);
-    }
-    if !is_utc_time(s, f) {
-        return Tt2000Answer::Refused(Refusal::ImpossibleField);
+    let Some(list) = LeapList::of(s) else {
+        return Err(Refusal::BadLeapSeconds);
+    };
+    if !is_utc_time(list, f) {
+        return Err(Refusal::ImpossibleField);
     }
     match calendar::found_day(Calendar::ProlepticGregorian, date_of(f)) {
-        FoundDay::Is(n) => return write_found(s, f, n),
-        FoundDay::Nothing => return Tt2000Answer::Refused(refusal_of(date_of(f))),
+        Some(n) => return write_found(list, f, n),
+        None => return Err(refusal_of(date_of(f))),
     }
 }

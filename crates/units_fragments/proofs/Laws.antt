@@ -7,17 +7,12 @@ use native.Mathlib.Nat.{zero-min}
 use native.Mathlib.Omega.{arith}
 use lib.ListN.{length, take, drop, length-drop, drop_of_length-le}
 use lib.Seq.{paste, paste-zero, take_all, take-length, length-take-le, drop-drop}
-use lib.Dec.{eqb, leb}
-use borrow.Author.Tests.{lt-ltb, leb-true}
-use Rattle.signed.proofs.Tests.{and_parts}
+use borrow.Author.Tests.{lt-ltb}
 use Rattle.units_fragments.specs.declared.UnitsState.{UnitsState}
 use Rattle.units_fragments.specs.Fragments.{is_open, count_of, fitting, with_fragment, after_fragment, after_end}
 
 module _ (s : UnitsState) where
   module _ (e : is_open s ≡ true) where
-    pub open_count : s.count ≤ 129
-    open_count = leb-true s.count 129 (and_parts (eqb s.ended 0) (leb s.count 129) e).1
-
     pub open_fragment : (f : List ℕ) → after_fragment s f ≡ with_fragment s f
     unfolding after_fragment
     open_fragment f = rw e

@@ -3,7 +3,7 @@
 #![tactic(auto)]
 
 ghost use Rattle.std.specs.Prelude.{◌≡◌, ◌+◌, ◌≤◌};
-ghost use Rattle.units_fragments.specs.Fragments.{fresh_state, is_open, fitting, count_of, with_fragment, after_fragment, after_end};
+ghost use Rattle.units_fragments.specs.Fragments.{fresh_state, is_open, count_of, with_fragment, after_fragment, after_end};
 
 // The text so far: `count` is the number of its bytes, 129 once there are more than 128, and `ended` is 0 until the end.
 #[repr(C)]
@@ -17,11 +17,10 @@ pub struct UnitsState {
 pub fn fresh_state() -> UnitsState
     ensures { result ≡ fresh_state }
 {
-    let bytes = [0; 128];
     UnitsState {
         count: 0,
         ended: 0,
-        bytes,
+        bytes: [0; 128],
     }
 }
 
@@ -29,19 +28,7 @@ pub fn fresh_state() -> UnitsState
 pub fn is_open(s: UnitsState) -> bool
     ensures { result ≡ is_open s }
 {
-    if s.ended != 0 {
-        return false;
-    }
-    s.count <= 129
-}
-
-// How many of n bytes have room after so many.
-fn fitting_after(count: usize, n: usize) -> usize
-    requires { count ≤ 128 }
-    ensures { result ≡ fitting count n }
-{
-    let room = 128 - count;
-    if room < n { room } else { n }
+    s.ended == 0 && s.count <= 129
 }
 
 // The count with n bytes more.
@@ -50,13 +37,14 @@ fn count_after(count: usize, n: usize) -> u32
     ensures { result ≡ count_of (count + n) }
 {
     if 128 - count < n {
-        return 129;
+        129
+    } else {
+        (count + n) as u32
     }
-    (count + n) as u32
 }
 
 // A state with a fragment more: the bytes that fit are copied behind those so far.
-fn with_fragment(s: UnitsState, fragment: &[u8]) -> UnitsState
+fn with_fragment(mut s: UnitsState, fragment: &[u8]) -> UnitsState
     requires { s.count ≤ 129 }
     ensures { result ≡ with_fragment s fragment.now }
 {
@@ -64,37 +52,32 @@ fn with_fragment(s: UnitsState, fragment: &[u8]) -> UnitsState
         return s;
     }
     let count = s.count as usize;
-    let n = fitting_after(count, fragment.len());
-    let mut bytes = s.bytes;
-    bytes[count..count + n].copy_from_slice(&fragment[..n]);
-    UnitsState {
-        count: count_after(count, fragment.len()),
-        ended: s.ended,
-        bytes,
-    }
+    let n = (128 - count).min(fragment.len());
+    s.bytes[count..count + n].copy_from_slice(&fragment[..n]);
+    s.count = count_after(count, fragment.len());
+    s
 }
 
 // The state that a fragment leaves.
+#[tactic(auto, unfolding(crate::specs::Fragments::after_fragment))]
 pub fn after_fragment(s: UnitsState, fragment: &[u8]) -> UnitsState
     ensures { result ≡ after_fragment s fragment.now }
 {
     if is_open(s) {
-        return with_fragment(s, fragment);
+        with_fragment(s, fragment)
+    } else {
+        s
     }
-    s
 }
 
 // The state that the end leaves, refused or not.
+#[tactic(auto, unfolding(crate::specs::Fragments::after_end))]
 pub fn after_end(s: UnitsState) -> UnitsState
     ensures { result ≡ after_end s }
 {
     if is_open(s) {
-        let bytes = s.bytes;
-        return UnitsState {
-            count: s.count,
-            ended: 1,
-            bytes,
-        };
+        UnitsState { ended: 1, ..s }
+    } else {
+        s
     }
-    s
 }

@@ -6,6 +6,9 @@ use mathlib.Core.Bool.{true, false}
 use mathlib.Core.List.{List}
 use mathlib.Core.Logic.{◌↔◌}
 use mathlib.Core.Option.{Option, none, some}
+use Rattle.std.specs.Prelude.{Option as Answer}
+use Rattle.grammar.specs.Answers.{answered}
+use Rattle.grammar.proofs.Answers.{answer_back}
 use Rattle.grammar.specs.Grammar.{within, inside, starts, Derives}
 use Rattle.grammar.specs.Reader.{nullable, first, front, back, scan, whole, read}
 use Rattle.grammar.specs.Clear.{extends, outside, apart, clear}
@@ -16,7 +19,6 @@ use Rattle.axis_types.specs.declared.Mode.{Mode}
 use Rattle.date_text.specs.DateRule.{midnight, date_rule}
 use Rattle.date_text.specs.declared.WrittenDate.{WrittenDate}
 use Rattle.units_text.specs.declared.Units.{Units}
-use Rattle.units_text.specs.declared.UnitsAnswer.{UnitsAnswer}
 use Rattle.units_text.specs.UnitsRule.{units}
 use Rattle.units_text.specs.Answers.{units_answer}
 
@@ -41,13 +43,11 @@ date_at_end s u (a, (p, q, e, m, (p1, q1, e1, k, (b, (p2, q2, e2, s2, (b2, (p3, 
     (q4, subst (λ (w : WrittenDate). Derives date_rule q4 w) (sym (ap (λ (v : Units). v.reference) x ∙ (y ∙ (y2 ∙ y3)))) d)
 
 -- what an answer says of the text
-abbrev pub units_value : UnitsAnswer → Option Units
-units_value (UnitsAnswer.Read u) = some u
-units_value UnitsAnswer.Refused = none
+abbrev pub units_value : Answer Units → Option Units
+units_value r = answered r
 
-pub units_back : (o : Option Units) (r : UnitsAnswer) → r ≡ units_answer o → o ≡ units_value r
-units_back none r e = ap units_value (sym e)
-units_back (some u) r e = ap units_value (sym e)
+pub units_back : (o : Option Units) (r : Answer Units) → r ≡ units_answer o → o ≡ units_value r
+units_back o r e = answer_back o r e
 
 -- some texts, two of them refused
 examples : (read units (bytes "days since 1850-01-01") ≡ some (record { mode = Mode.Fixed; period = Period.Day; reference = record { negative = false; year = 1850; month = 1; day = 1; time = midnight } }))

@@ -14,8 +14,8 @@ ghost use Rattle.units_text.specs.UnitsRule.{period_words, period_word, spaces, 
 ghost use Rattle.units_text.specs.Answers.{meaning_of, period_in, mode_in, units_answer};
 
 use axis_types::{Mode, Period};
-use date_text::{WrittenAt, WrittenDate, date_at};
-use grammar::{EndAt, letter_at, run_end, same_bytes, starts_in, word_at};
+use date_text::{WrittenDate, date_at};
+use grammar::{letter_at, run_end, same_bytes, starts_in, word_at};
 use word_table::packed_of;
 
 // What a units text says.
@@ -26,144 +26,96 @@ pub struct Units {
     pub reference: WrittenDate,
 }
 
-// What a word means.
-#[derive(Clone, Copy)]
-pub enum Meaning {
-    Is(Period),
-    Nothing,
-}
-
-// What each function finds at a place of a text: its value and the place after it, or nothing.
-#[derive(Clone, Copy)]
-pub enum PeriodAt {
-    Found(Period, usize),
-    Nothing,
-}
-
-#[derive(Clone, Copy)]
-pub enum ModeAt {
-    Found(Mode, usize),
-    Nothing,
-}
-
-// The answer to a whole text.
-#[derive(Clone, Copy)]
-pub enum UnitsAnswer {
-    Read(Units),
-    Refused,
-}
-
 // What a word means in the table of period words. A word of at most eight letters is looked up as one number,
-// two hexadecimal digits a letter; only one word is longer.
-fn period_of(d: &[u8]) -> Meaning
+// two hexadecimal digits a letter; only one word is longer. The numbers stay, since docs/PROMISES.md promises them.
+fn period_of(d: &[u8]) -> Option<Period>
     requires in_bounds { 1 ≤ length d.now }
     requires d_value { every (span 97 122) d.now ≡ true }
     ensures { lookup period_words d.now ≡ meaning_of result }
 {
     if 8 < d.len() {
         if same_bytes(d, b"millisecs") {
-            return Meaning::Is(Period::Millisecond);
+            return Some(Period::Millisecond);
         }
-        return Meaning::Nothing;
+        return None;
     }
-    let w = packed_of(d);
-    match w {
+    match packed_of(d) {
         // millisec, msec, msecs
-        0x6d696c6c69736563 | 0x6d736563 | 0x6d73656373 => Meaning::Is(Period::Millisecond),
+        0x6d696c6c69736563 | 0x6d736563 | 0x6d73656373 => Some(Period::Millisecond),
         // second, seconds, sec, secs, s
-        0x7365636f6e64 | 0x7365636f6e6473 | 0x736563 | 0x73656373 | 0x73 => Meaning::Is(
-            Period::Second,
-        ),
+        0x7365636f6e64 | 0x7365636f6e6473 | 0x736563 | 0x73656373 | 0x73 => Some(Period::Second),
         // minute, minutes, min, mins
-        0x6d696e757465 | 0x6d696e75746573 | 0x6d696e | 0x6d696e73 => Meaning::Is(Period::Minute),
+        0x6d696e757465 | 0x6d696e75746573 | 0x6d696e | 0x6d696e73 => Some(Period::Minute),
         // hour, hours, hr, hrs
-        0x686f7572 | 0x686f757273 | 0x6872 | 0x687273 => Meaning::Is(Period::Hour),
+        0x686f7572 | 0x686f757273 | 0x6872 | 0x687273 => Some(Period::Hour),
         // day, days
-        0x646179 | 0x64617973 => Meaning::Is(Period::Day),
+        0x646179 | 0x64617973 => Some(Period::Day),
         // week, weeks
-        0x7765656b | 0x7765656b73 => Meaning::Is(Period::Week),
+        0x7765656b | 0x7765656b73 => Some(Period::Week),
         // month, months, mon, mons
-        0x6d6f6e7468 | 0x6d6f6e746873 | 0x6d6f6e | 0x6d6f6e73 => Meaning::Is(Period::Month),
+        0x6d6f6e7468 | 0x6d6f6e746873 | 0x6d6f6e | 0x6d6f6e73 => Some(Period::Month),
         // year, years, yr, yrs
-        0x79656172 | 0x7965617273 | 0x7972 | 0x797273 => Meaning::Is(Period::Year),
-        _ => Meaning::Nothing,
+        0x79656172 | 0x7965617273 | 0x7972 | 0x797273 => Some(Period::Year),
+        _ => None,
     }
 }
 
-fn period_at(s: &[u8], at: usize) -> PeriodAt
+fn period_at(s: &[u8], at: usize) -> Option<(Period, usize)>
     ensures { scan period_word (drop at s.now) ≡ period_in s.now result }
 {
-    let e = run_end(s, at, 97, 122);
+    let e = run_end(s, at, b'a', b'z');
     if e <= at {
-        return PeriodAt::Nothing;
+        return None;
     }
     let d = &s[at..e];
     if starts_in(d, 0, b"dhmswy") {
-        let Meaning::Is(p) = period_of(d) else {
-            return PeriodAt::Nothing;
-        };
-        return PeriodAt::Found(p, e);
+        let p = period_of(d)?;
+        return Some((p, e));
     }
-    PeriodAt::Nothing
+    None
 }
 
-fn spaces_at(s: &[u8], at: usize) -> EndAt
+fn spaces_at(s: &[u8], at: usize) -> Option<usize>
     ensures { scan spaces (drop at s.now) ≡ end_in s.now result }
 {
-    let e = run_end(s, at, 32, 32);
+    let e = run_end(s, at, b' ', b' ');
     if e <= at {
-        return EndAt::Nothing;
+        return None;
     }
-    EndAt::Found(e)
+    Some(e)
 }
 
-fn mode_at(s: &[u8], at: usize) -> ModeAt
+fn mode_at(s: &[u8], at: usize) -> Option<(Mode, usize)>
     ensures { scan mode (drop at s.now) ≡ mode_in s.now result }
 {
-    if letter_at(s, at, 67) {
-        let EndAt::Found(b) = word_at(s, at, b"CALENDAR") else {
-            return ModeAt::Nothing;
-        };
-        let EndAt::Found(e) = spaces_at(s, b) else {
-            return ModeAt::Nothing;
-        };
-        return ModeAt::Found(Mode::Calendar, e);
+    if letter_at(s, at, b'C') {
+        let b = word_at(s, at, b"CALENDAR")?;
+        let e = spaces_at(s, b)?;
+        return Some((Mode::Calendar, e));
     }
-    ModeAt::Found(Mode::Fixed, at)
+    Some((Mode::Fixed, at))
 }
 
-fn since_at(s: &[u8], at: usize) -> WrittenAt
+fn since_at(s: &[u8], at: usize) -> Option<(WrittenDate, usize)>
     ensures { scan since (drop at s.now) ≡ written_in s.now result }
 {
-    let EndAt::Found(a) = spaces_at(s, at) else {
-        return WrittenAt::Nothing;
-    };
-    let EndAt::Found(b) = word_at(s, a, b"SINCE") else {
-        return WrittenAt::Nothing;
-    };
-    let EndAt::Found(e) = spaces_at(s, b) else {
-        return WrittenAt::Nothing;
-    };
+    let a = spaces_at(s, at)?;
+    let b = word_at(s, a, b"SINCE")?;
+    let e = spaces_at(s, b)?;
     date_at(s, e)
 }
 
 // A whole text that is a units text.
-pub fn read_units(s: &[u8]) -> UnitsAnswer
+pub fn read_units(s: &[u8]) -> Option<Units>
     ensures { result ≡ units_answer (read units s.now) }
 {
-    let ModeAt::Found(mode, a) = mode_at(s, 0) else {
-        return UnitsAnswer::Refused;
-    };
-    let PeriodAt::Found(period, b) = period_at(s, a) else {
-        return UnitsAnswer::Refused;
-    };
-    let WrittenAt::Found(reference, e) = since_at(s, b) else {
-        return UnitsAnswer::Refused;
-    };
+    let (mode, a) = mode_at(s, 0)?;
+    let (period, b) = period_at(s, a)?;
+    let (reference, e) = since_at(s, b)?;
     if e < s.len() {
-        return UnitsAnswer::Refused;
+        return None;
     }
-    UnitsAnswer::Read(Units {
+    Some(Units {
         mode,
         period,
         reference,

@@ -1,4 +1,5 @@
 -- How far a day was moved back, of the calls: by the theorems of crate `axis`, proofs/Back.antt.
+use Rattle.std.specs.Prelude.{Result, Ok, Err}
 use mathlib.Core.Path.{◌≡◌, refl, sym, ap, ◌∙◌, subst}
 use mathlib.Core.Bool.{true}
 use Prim.Native.Nat.{ℕ}
@@ -12,12 +13,10 @@ use Rattle.cutover.specs.Calendars.{Carries}
 use Rattle.cutover.proofs.Theorems.{first_carried, allowed_carried, cutover_kept}
 use Rattle.instant.specs.Instant.{day_of, time_of, fields_at, fields_answer, date_in}
 use Rattle.instant.specs.declared.Fields.{Fields}
-use Rattle.instant.specs.declared.InstantAnswer.{InstantAnswer}
 use Rattle.instant.proofs.Theorems as Instants
 use Rattle.axis_types.specs.declared.Axis.{Axis}
 use Rattle.axis_types.specs.declared.Mode.{Mode}
 use Rattle.axis_types.specs.declared.Offset.{Offset}
-use Rattle.axis_types.specs.declared.Reading.{Reading}
 use Rattle.axis.specs.Axis.{read_whole_on, whole_back, read_double_on, double_back, read_offset, step_on}
 use Rattle.axis.specs.MovedBack.{MonthsOrYears, CutoverMonth, MovedBack}
 use Rattle.axis.specs.declared.Step.{Step}
@@ -31,6 +30,8 @@ use Rattle.uppinalo.specs.Texts.{of_instant}
 use Rattle.uppinalo.specs.DaysBack.{FieldsOn, WholeRead, NoneBack, DaysBack}
 use Rattle.uppinalo.specs.declared.texts.UppinaloReading.{UppinaloReading}
 use Rattle.uppinalo.proofs.Boundary.{fields_is, fields_shown, whole_is, double_is}
+use Rattle.axis_types.specs.Reading.{Reading}
+use Rattle.refusal.specs.declared.Refusal.{Refusal}
 
 -- ---- by months and years
 
@@ -43,17 +44,17 @@ module _ (x : GivenAxis) (e : x.mode ≡ Mode.Calendar) (p : MonthsOrYears x.per
   Shows a = a.number ≡ 0 → FieldsOn x a.instant g → MovedBack x.calendar (date_in f) (date_in g) a.days_back
 
   by_reading : (r : Reading) → read_whole_on (axis_given x) n ≡ r → Shows (of_reading r (whole_back (axis_given x) n))
-  by_reading (Reading.At t exact) h k given =
+  by_reading (Ok (t, exact)) h k given =
       subst (λ (d : Date). MovedBack x.calendar d (date_in g) (whole_back (axis_given x) n)) (date_shown x x.reference f asked)
       (subst (λ (d : Date). MovedBack x.calendar (date_of x.calendar (day_of x.reference)) d (whole_back (axis_given x) n)) (date_shown x t g given) (Back.moved_back (axis_given x) e p n t exact h))
-  by_reading (Reading.Refused r) h k given = absurd (not_success r k)
+  by_reading (Err r) h k given = absurd (not_success r k)
 
   moved : WholeRead x n g → MovedBack x.calendar (date_in f) (date_in g) (uppinalo_read_whole (axis_codes x) n).days_back
   moved w = subst Shows (sym (whole_is x n refl)) (by_reading (read_whole_on (axis_given x) n) refl) w.success w.given
 
 -- ---- readings that reach the bounds
 
-module _ (x : GivenAxis) (n t : ℤ) (h : read_whole_on (axis_given x) n ≡ Reading.At t true) where
+module _ (x : GivenAxis) (n t : ℤ) (h : read_whole_on (axis_given x) n ≡ Ok (t, true)) where
   abbrev fields : Fields
   fields = fields_at (date_of x.calendar (day_of t)) (time_of t)
 
@@ -97,8 +98,8 @@ no_days : (a : UppinaloReading) (r : Reading) (k : ℕ) → a ≡ of_reading r k
 no_days a r k h e = ap (λ (b : UppinaloReading). b.days_back) h ∙ go r
   where
     go : (r : Reading) → (of_reading r k).days_back ≡ 0
-    go (Reading.At t exact) = e
-    go (Reading.Refused q) = refl
+    go (Ok (t, exact)) = e
+    go (Err q) = refl
 
 none_back : (x : GivenAxis) → step_on (axis_given x) ≡ Step.Time → NoneBack x
 none_back x e =
@@ -107,9 +108,9 @@ none_back x e =
       double = λ y. no_days (uppinalo_read_double (axis_codes x) y) (read_double_on (axis_given x) y) (double_back (axis_given x) y) (double_is x y refl) (Back.double_none (axis_given x) e y);
     }
 
-of_text : (a : InstantAnswer) → (of_instant a).days_back ≡ 0
-of_text (InstantAnswer.Is t) = refl
-of_text (InstantAnswer.Refused r) = refl
+of_text : (a : Result ℤ Refusal) → (of_instant a).days_back ≡ 0
+of_text (Ok t) = refl
+of_text (Err r) = refl
 
 pub days_back_lem : DaysBack
 days_back_lem =

@@ -1,4 +1,5 @@
 -- Demand 3: doubles on a fixed axis.
+use Rattle.std.specs.Prelude.{Ok, Err}
 use mathlib.Core.Path.{◌≡◌, refl, sym, ap, ◌∙◌, subst}
 use mathlib.Core.Bool.{Bool, true, false, cond}
 use Prim.Native.Nat.{ℕ}
@@ -11,7 +12,6 @@ use Rattle.instant.specs.Instant.{in_range}
 use Rattle.axis_types.specs.Lengths.{length_of}
 use Rattle.axis_types.specs.declared.Mode.{Mode}
 use Rattle.axis_types.specs.declared.Period.{Period}
-use Rattle.axis_types.specs.declared.Reading.{Reading}
 use Rattle.double.specs.Nearest.{distance, nearest_count}
 use Rattle.fixed_axis.specs.Fixed.{read_double}
 use Rattle.fixed_axis.proofs.Demands as Fixed
@@ -23,6 +23,7 @@ use Rattle.uppinalo.specs.Offsets.{of_reading, uppinalo_read_double}
 use Rattle.uppinalo.specs.Demands.{ReadsAt, DoublesRead, GoodReference}
 use Rattle.uppinalo.specs.declared.texts.UppinaloReading.{UppinaloReading}
 use Rattle.uppinalo.proofs.Boundary.{double_is, reading_at_lem, reading_refused}
+use Rattle.axis_types.specs.Reading.{Reading}
 
 module _ (x : GivenAxis) (m : x.mode ≡ Mode.Fixed) (g : GoodReference x) where
   abbrev calendar : Calendar
@@ -41,7 +42,7 @@ module _ (x : GivenAxis) (m : x.mode ≡ Mode.Fixed) (g : GoodReference x) where
   read_double_lem : (y : Float) → uppinalo_read_double (axis_codes x) y ≡ alone y (read_double calendar period reference y)
   read_double_lem y = double_is x y (Axes.fixed_double (axis_given x) y (good_in (axis_given x) g) m)
 
-  double_at : (y : Float) (z : ℤ) (exact : Bool) → ReadsAt (uppinalo_read_double (axis_codes x) y) z exact → read_double calendar period reference y ≡ Reading.At z exact
+  double_at : (y : Float) (z : ℤ) (exact : Bool) → ReadsAt (uppinalo_read_double (axis_codes x) y) z exact → read_double calendar period reference y ≡ Ok (z, exact)
   double_at y z exact h = reading_at_lem (read_double calendar period reference y) (double_back (axis_given x) y) z exact (subst (λ (a : UppinaloReading). ReadsAt a z exact) (read_double_lem y) h)
 
   number_is : (y : Float) → (uppinalo_read_double (axis_codes x) y).number ≡ (alone y (read_double calendar period reference y)).number
@@ -53,7 +54,7 @@ module _ (x : GivenAxis) (m : x.mode ≡ Mode.Fixed) (g : GoodReference x) where
       let z = nearest_count reference (length_of period) s k e in
       go (in_range calendar z) z (eqb (distance reference (length_of period) s k e z) 0)
     where
-      go : (b : Bool) (z : ℤ) (exact : Bool) → ((alone (fin s k e) (cond b (Reading.At z exact) (Reading.Refused OutOfRange))).number ≡ 5 → ⊥) → (alone (fin s k e) (cond b (Reading.At z exact) (Reading.Refused OutOfRange))).number ≡ 0
+      go : (b : Bool) (z : ℤ) (exact : Bool) → ((alone (fin s k e) (cond {A = Reading} b (Ok (z, exact)) (Err OutOfRange))).number ≡ 5 → ⊥) → (alone (fin s k e) (cond {A = Reading} b (Ok (z, exact)) (Err OutOfRange))).number ≡ 0
       go true z exact h = refl
       go false z exact h = absurd (h refl)
 

@@ -1,4 +1,5 @@
 -- An identifier is refused with 3, before all else, exactly where the grammar does not derive it.
+use Rattle.std.specs.Prelude.{Result, Ok, Err}
 use mathlib.Core.Path.{◌≡◌, refl, sym, ap, ◌∙◌}
 use mathlib.Core.Bool.{Bool, true, false, cond}
 use mathlib.Core.List.{List, [], ◌∷◌}
@@ -15,16 +16,13 @@ use Rattle.refusal.specs.declared.Refusal.{Refusal}
 use Rattle.refusal.specs.declared.Refusal.TheVariants.{OutOfRange, NoRoom, PartRecord, NotATime}
 use Rattle.calendar.specs.declared.Calendar.TheVariants.{ProlepticGregorian}
 use Rattle.instant.specs.Instant.{in_range}
-use Rattle.axis_types.specs.Reading.{refusal_of, offset_refusal}
-use Rattle.axis_types.specs.declared.Reading.{Reading}
-use Rattle.axis_types.specs.declared.OffsetAnswer.{OffsetAnswer}
+use Rattle.axis_types.specs.Reading.{refusal_of, offset_refusal, Reading}
 use Rattle.run_ends.specs.Each.{Each}
-use Rattle.runs.specs.Run.{after, first_refused, checked, check_answer}
-use Rattle.runs.specs.declared.Check.{Check}
+use Rattle.runs.specs.Run.{after, first_refused, checked, check_answer, Check, refused_at}
 use Rattle.datetime64_type.specs.Units.{unit_row_of}
 use Rattle.datetime64_type.specs.declared.Datetime64Type.{Datetime64Type}
 use Rattle.datetime64_type.specs.declared.UnitRow.{UnitRow}
-use Rattle.datetime64_type.specs.declared.identifier.TypeAnswer.{TypeAnswer}
+use Rattle.std.specs.Prelude.{Option as Answer}
 use Rattle.datetime64_type.proofs.Texts.{type_is, type_ill_formed}
 use Rattle.datetime64_number.specs.Numbers.{is_not_a_time, write_number}
 use Rattle.datetime64_number.proofs.ByRow.{Unread}
@@ -47,16 +45,16 @@ first_not_3 refusal (x ∷ xs) n h e = go (refusal x) refl (first_refused refusa
   where
     go : (o : Option Refusal) → refusal x ≡ o → (k : Check) → ((check_answer k n 0).number ≡ 3 → ⊥) → (check_answer (after o k) n 0).number ≡ 3 → ⊥
     go (some r) f k g e = h.0 r f e
-    go none f Check.AllRead g e = g e
-    go none f (Check.Refused r place) g e = g e
+    go none f (Ok tt) g e = g e
+    go none f (Err at) g e = g e
 
-was_refused : (a : Reading) (r : Refusal) → refusal_of a ≡ some r → a ≡ Reading.Refused r
-was_refused (Reading.At x exact) r e = absurd (let k : ◌≡◌ {A = ℕ} 0 1 = cc in omega arith)
-was_refused (Reading.Refused q) r e = let k : q ≡ r = cc in ap Reading.Refused k
+was_refused : (a : Reading) (r : Refusal) → refusal_of a ≡ some r → a ≡ Err r
+was_refused (Ok (x, exact)) r e = absurd (let k : ◌≡◌ {A = ℕ} 0 1 = cc in omega arith)
+was_refused (Err q) r e = let k : q ≡ r = cc in ap Err k
 
-was_unwritten : (a : OffsetAnswer) (r : Refusal) → offset_refusal a ≡ some r → a ≡ OffsetAnswer.Refused r
-was_unwritten (OffsetAnswer.Is n) r e = absurd (let k : ◌≡◌ {A = ℕ} 0 1 = cc in omega arith)
-was_unwritten (OffsetAnswer.Refused q) r e = let k : q ≡ r = cc in ap OffsetAnswer.Refused k
+was_unwritten : (a : Result ℤ Refusal) (r : Refusal) → offset_refusal a ≡ some r → a ≡ Err r
+was_unwritten (Ok n) r e = absurd (let k : ◌≡◌ {A = ℕ} 0 1 = cc in omega arith)
+was_unwritten (Err q) r e = let k : q ≡ r = cc in ap Err k
 
 -- the reasons of a number that holds a time
 unread_not_3 : (row : UnitRow) (n : ℤ) (r : Refusal) → Unread row n r → number_of r ≡ 3 → ⊥
@@ -71,7 +69,7 @@ module _ (t : Datetime64Type) where
       fits : SFits w64 (record_number t.order r)
       fits = number_fits t.order r h
 
-      refused : read_record t r ≡ Reading.Refused q
+      refused : read_record t r ≡ Err q
       refused = was_refused (read_record t r) q e
 
       go : (b : Bool) → is_not_a_time (record_number t.order r) ≡ b → ⊥
@@ -86,7 +84,7 @@ module _ (t : Datetime64Type) where
       each [] h = tt
       each (r ∷ rs) h = (record_not_3 r h.0, each rs h.1)
 
-      go : (a b : Bool) → (check_answer (cond a (cond b (Check.Refused NoRoom 0) (checked (read_record t) (records_in s))) (Check.Refused PartRecord 0)) (record_count s) 0).number ≡ 3 → ⊥
+      go : (a b : Bool) → (check_answer (cond a (cond b (refused_at NoRoom 0) (checked (read_record t) (records_in s))) (refused_at PartRecord 0)) (record_count s) 0).number ≡ 3 → ⊥
       go false b e = omega (arith, e)
       go true true e = omega (arith, e)
       go true false e = first_not_3 _ (records_in s) (record_count s) (each (records_in s) (records_are (record_count s) s (omega arith) h)) e
@@ -94,7 +92,7 @@ module _ (t : Datetime64Type) where
   instant_not_3 : (x : ℤ) → NotThree (instant_refusal t x)
   instant_not_3 x r e k = go (in_range ProlepticGregorian x) refl
     where
-      refused : write_number t.unit x ≡ OffsetAnswer.Refused r
+      refused : write_number t.unit x ≡ Err r
       refused = was_unwritten (write_number t.unit x) r e
 
       go : (b : Bool) → in_range ProlepticGregorian x ≡ b → ⊥
@@ -109,7 +107,7 @@ module _ (t : Datetime64Type) where
       each [] = tt
       each (y ∷ ys) = (instant_not_3 y, each ys)
 
-      go : (b : Bool) → (check_answer (cond b (Check.Refused NoRoom 0) (first_refused (instant_refusal t) xs)) (length xs) 0).number ≡ 3 → ⊥
+      go : (b : Bool) → (check_answer (cond b (refused_at NoRoom 0) (first_refused (instant_refusal t) xs)) (length xs) 0).number ≡ 3 → ⊥
       go true e = omega (arith, e)
       go false e = first_not_3 (instant_refusal t) xs (length xs) (each xs) e
 
@@ -120,8 +118,8 @@ module _ (text : List ℕ) where
   identifiers =
       let ill-formed = (type_ill_formed text).1 in
       record {
-        reading = λ h s ds. ap (λ (k : TypeAnswer). read_answer k s ds) (ill-formed h);
-        writing = λ h xs room. ap (λ (k : TypeAnswer). write_answer k xs room) (ill-formed h);
-        reading_only = λ s ds b e t d. records_not_3 t s b (length ds) (ap (λ (k : TypeAnswer). (read_answer k s ds).number) (sym ((type_is text t).1 d)) ∙ e);
-        writing_only = λ xs room e t d. instants_not_3 t xs (length room) (ap (λ (k : TypeAnswer). (write_answer k xs room).number) (sym ((type_is text t).1 d)) ∙ e);
+        reading = λ h s ds. ap (λ (k : Answer Datetime64Type). read_answer k s ds) (ill-formed h);
+        writing = λ h xs room. ap (λ (k : Answer Datetime64Type). write_answer k xs room) (ill-formed h);
+        reading_only = λ s ds b e t d. records_not_3 t s b (length ds) (ap (λ (k : Answer Datetime64Type). (read_answer k s ds).number) (sym ((type_is text t).1 d)) ∙ e);
+        writing_only = λ xs room e t d. instants_not_3 t xs (length room) (ap (λ (k : Answer Datetime64Type). (write_answer k xs room).number) (sym ((type_is text t).1 d)) ∙ e);
       }

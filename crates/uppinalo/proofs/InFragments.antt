@@ -1,4 +1,5 @@
 -- A units text in fragments: it is read as the joined text is, and 11 is exactly for a state that is not open.
+use Rattle.std.specs.Prelude.{Result, Err, ℤ}
 use mathlib.Core.Path.{◌≡◌, refl, sym, ap, ◌∙◌}
 use mathlib.Core.Bool.{Bool, true, false, true≢false}
 use mathlib.Core.List.{List}
@@ -10,13 +11,11 @@ use borrow.Author.Tests.{eq-eqb, le-leb, lt-ltb, le-ltb, eqb-true, leb-true, ltb
 use Rattle.signed.proofs.Tests.{both, and_parts, to_false}
 use Rattle.calendar.specs.declared.Calendar.{Calendar}
 use Rattle.calendar.specs.declared.Date.{Date}
-use Rattle.instant.specs.declared.InstantAnswer.{InstantAnswer}
 use Rattle.named_text.proofs.Laws.{text_outcome}
 use Rattle.units_text.specs.UnitsRule.{units}
 use Rattle.units_text.specs.declared.Units.{Units}
 use Rattle.written_instant.proofs.Order.{written_outcome}
 use Rattle.axis_text.specs.Units.{axis_at, axis_of, read_units}
-use Rattle.axis_text.specs.declared.AxisAnswer.{AxisAnswer}
 use Rattle.units_fragments.specs.Fragments.{is_open, after_end, after_each, concatenation}
 use Rattle.units_fragments.specs.declared.UnitsState.{UnitsState}
 use Rattle.units_fragments.proofs.Laws.{open_end, kept_by_fragment, kept_by_end}
@@ -27,6 +26,8 @@ use Rattle.uppinalo.specs.Demands.{OpenState, TextsInFragments}
 use Rattle.uppinalo.specs.declared.texts.UppinaloAxisAnswer.{UppinaloAxisAnswer}
 use Rattle.uppinalo.proofs.SoFar.{end_open, end_closed, open_outcome}
 use Rattle.uppinalo.proofs.Derived.{before_texts}
+use Rattle.axis_types.specs.declared.Axis.{Axis}
+use Rattle.refusal.specs.declared.Refusal.{Refusal}
 
 -- ---- a text that is read is never refused with 11
 
@@ -35,10 +36,10 @@ NotEleven a = a.number ≡ 11 → ⊥
 
 read_not_eleven : (name : List ℕ) (cutover : Date) (text : List ℕ) → NotEleven (uppinalo_read_units name cutover text)
 unfolding NotEleven read_units
-read_not_eleven name cutover text = text_outcome AxisAnswer.Refused units axis_of name cutover text (λ (a : AxisAnswer). NotEleven (of_axis a cutover)) (λ r l h. omega (arith, l, h)) (λ h. omega (arith, h)) (λ c u _. given c u)
+read_not_eleven name cutover text = text_outcome Err units axis_of name cutover text (λ (a : Result Axis Refusal). NotEleven (of_axis a cutover)) (λ r l h. omega (arith, l, h)) (λ h. omega (arith, h)) (λ c u _. given c u)
   where
     given : (c : Calendar) (u : Units) → NotEleven (of_axis (axis_of c u) cutover)
-    given c u = written_outcome c u.reference (λ (a : InstantAnswer). NotEleven (of_axis (axis_at c u a) cutover)) (λ t _ h. omega (arith, h)) (λ h. omega (arith, h)) (λ h. omega (arith, h)) (λ h. omega (arith, h)) (λ h. omega (arith, h))
+    given c u = written_outcome c u.reference (λ (a : Result ℤ Refusal). NotEleven (of_axis (axis_at c u a) cutover)) (λ t _ h. omega (arith, h)) (λ h. omega (arith, h)) (λ h. omega (arith, h)) (λ h. omega (arith, h)) (λ h. omega (arith, h))
 
 -- ---- states
 

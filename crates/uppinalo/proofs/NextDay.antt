@@ -1,4 +1,5 @@
 -- Demand 2, dates: day numbers, and offsets on an axis of days, by the next-day rule.
+use Rattle.std.specs.Prelude.{Ok, Err}
 use mathlib.Core.Path.{◌≡◌, refl, sym, ap, ◌∙◌, subst}
 use mathlib.Core.Bool.{Bool, true, false, cond}
 use lib.IntN.{ℤ, pos, ◌+ℤ◌, +ℤ_idl}
@@ -7,13 +8,11 @@ use Rattle.calendar.specs.Calendar.{times, date_by, date_of, DaysOn, in_years}
 use Rattle.calendar.specs.Answers.{date_answer}
 use Rattle.calendar.specs.declared.Calendar.{Calendar}
 use Rattle.calendar.specs.declared.Date.{Date}
-use Rattle.calendar.specs.declared.DateAnswer.{DateAnswer}
 use Rattle.calendar.proofs.Answering.{year_out, date_there}
 use Rattle.calendar.proofs.Theorems.{dates_exist, days_there, days_only}
 use Rattle.instant.specs.Instant.{day_of, time_of, in_range, fields_at, with_time, fields_answer}
 use Rattle.instant.proofs.Theorems.{fields_in_lem}
 use Rattle.axis_types.specs.declared.Period.{Period}
-use Rattle.axis_types.specs.declared.Reading.{Reading}
 use Rattle.fixed_axis.specs.Fixed.{time_after, read_whole}
 use Rattle.fixed_axis.proofs.Dates.{day_after_lem, time_after_lem}
 use Rattle.fixed_axis.proofs.Offsets.{reads}
@@ -27,6 +26,7 @@ use Rattle.uppinalo.specs.Offsets.{of_reading, uppinalo_read_whole}
 use Rattle.uppinalo.specs.Demands.{GoodReference, fields_given, IsDay, DatesByNextDay, DaysFromReference, DaysRead}
 use Rattle.uppinalo.specs.declared.days.UppinaloDateAnswer.{UppinaloDateAnswer}
 use Rattle.uppinalo.proofs.Boundary.{whole_is, date_is, day_is, fields_is, at_reading}
+use Rattle.axis_types.specs.Reading.{Reading}
 
 -- ---- demand 2: dates
 
@@ -47,15 +47,15 @@ module _ (c : Calendar) where
   unfolding date_answer
   answered n = go (in_years (date_of c n).year)
     where
-      go : (b : Bool) → of_date (cond b (DateAnswer.Is (date_of c n)) (DateAnswer.Refused OutOfRange)) ≡ cond b (record { number = 0; date = date_of c n }) (no_date OutOfRange)
+      go : (b : Bool) → of_date (cond b (Ok (date_of c n)) (Err OutOfRange)) ≡ cond b (record { number = 0; date = date_of c n }) (no_date OutOfRange)
       go true = refl
       go false = refl
 
   fields_answered : (t : ℤ) (d : Date) → IsDay c (day_of t) d → of_fields (fields_answer c t) ≡ cond (in_years d.year) (fields_given (fields_at d (time_of t))) (no_fields OutOfRange)
   unfolding fields_answer date_answer
-  fields_answered t d p = ap (λ (x : Date). of_fields (with_time (cond (in_years x.year) (DateAnswer.Is x) (DateAnswer.Refused OutOfRange)) (time_of t))) (sym (is_date (day_of t) d p)) ∙ go (in_years d.year)
+  fields_answered t d p = ap (λ (x : Date). of_fields (with_time (cond (in_years x.year) (Ok x) (Err OutOfRange)) (time_of t))) (sym (is_date (day_of t) d p)) ∙ go (in_years d.year)
     where
-      go : (b : Bool) → of_fields (with_time (cond b (DateAnswer.Is d) (DateAnswer.Refused OutOfRange)) (time_of t)) ≡ cond b (fields_given (fields_at d (time_of t))) (no_fields OutOfRange)
+      go : (b : Bool) → of_fields (with_time (cond b (Ok d) (Err OutOfRange)) (time_of t)) ≡ cond b (fields_given (fields_at d (time_of t))) (no_fields OutOfRange)
       go true = refl
       go false = refl
 

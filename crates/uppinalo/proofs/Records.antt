@@ -9,13 +9,12 @@ use lib.ListN.{length, drop}
 use Rattle.refusal.specs.declared.Refusal.{Refusal}
 use Rattle.axis_types.specs.Reading.{is_none, refusal_of, instant_of}
 use Rattle.run_ends.specs.Each.{Each}
-use Rattle.runs.specs.Run.{first_refused, overlaid, check_answer, chosen}
-use Rattle.runs.specs.declared.Check.{Check}
+use Rattle.runs.specs.Run.{first_refused, overlaid, check_answer, chosen, Check}
 use Rattle.runs.proofs.Passes.{each_read, first_refused_lem}
 use Rattle.grammar.specs.Grammar.{Derives}
 use Rattle.datetime64_type.specs.Identifier.{identifier}
 use Rattle.datetime64_type.specs.declared.Datetime64Type.{Datetime64Type}
-use Rattle.datetime64_type.specs.declared.identifier.TypeAnswer.{TypeAnswer}
+use Rattle.std.specs.Prelude.{Option as Answer, Some, Ok}
 use Rattle.datetime64_type.proofs.Texts.{type_is}
 use Rattle.datetime64_runs.specs.Records.{record_count, records_in}
 use Rattle.datetime64_runs.specs.Runs.{type_named, read_record, records_check, read_answer, read_destination, instant_refusal, instants_check, records_written, write_answer, write_room}
@@ -33,13 +32,13 @@ module _ {A : Type 0} (refusal : A → Option Refusal) where
   pub refused_first : (xs : List A) (k : Check) (n : ℕ) → first_refused refusal xs ≡ k → RefusedFirst refusal xs (check_answer k n 0)
   refused_first xs k n c ys y zs r e h f = ap (λ (q : Check). check_answer q n 0) (sym c ∙ (ap (first_refused refusal) e ∙ sym (first_refused_lem refusal ys y zs r (not_one ys h) f)))
 
-  pub none_refused : (xs : List A) (k : Check) → first_refused refusal xs ≡ k → Each (λ (x : A). refusal x ≡ none) xs → k ≡ Check.AllRead
+  pub none_refused : (xs : List A) (k : Check) → first_refused refusal xs ≡ k → Each (λ (x : A). refusal x ≡ none) xs → k ≡ Ok tt
   none_refused xs k c h = sym c ∙ sym (each_read refusal xs (not_one xs h))
 
 -- ---- with a type
 
 module _ (t : Datetime64Type) where
-  by_records : (s : List ℕ) (ds : List ℤ) → ReadByRecords t s ds (read_answer (TypeAnswer.Is t) s ds) (read_destination (TypeAnswer.Is t) s ds)
+  by_records : (s : List ℕ) (ds : List ℤ) → ReadByRecords t s ds (read_answer (Some t) s ds) (read_destination (Some t) s ds)
   unfolding overlaid
   by_records s ds =
       let refusal : List ℕ → Option Refusal = λ r. refusal_of (read_record t r) in
@@ -55,7 +54,7 @@ module _ (t : Datetime64Type) where
             );
       }
 
-  by_instants : (xs : List ℤ) (room : List ℕ) → WrittenByInstants t xs room (write_answer (TypeAnswer.Is t) xs room) (write_room (TypeAnswer.Is t) xs room)
+  by_instants : (xs : List ℤ) (room : List ℕ) → WrittenByInstants t xs room (write_answer (Some t) xs room) (write_room (Some t) xs room)
   by_instants xs room =
       let answer : Check → _ = λ k. check_answer k (length xs) 0 in
       record {
@@ -69,11 +68,11 @@ module _ (t : Datetime64Type) where
 -- ---- by the identifier
 
 module _ (text : List ℕ) (t : Datetime64Type) (d : Derives identifier text t) where
-  named : TypeAnswer.Is t ≡ type_named text
+  named : Some t ≡ type_named text
   named = sym ((type_is text t).1 d)
 
   pub reading : (s : List ℕ) (ds : List ℤ) → ReadByRecords t s ds (read_answer (type_named text) s ds) (read_destination (type_named text) s ds)
-  reading s ds = subst (λ (k : TypeAnswer). ReadByRecords t s ds (read_answer k s ds) (read_destination k s ds)) named (by_records t s ds)
+  reading s ds = subst (λ (k : Answer Datetime64Type). ReadByRecords t s ds (read_answer k s ds) (read_destination k s ds)) named (by_records t s ds)
 
   pub writing : (xs : List ℤ) (room : List ℕ) → WrittenByInstants t xs room (write_answer (type_named text) xs room) (write_room (type_named text) xs room)
-  writing xs room = subst (λ (k : TypeAnswer). WrittenByInstants t xs room (write_answer k xs room) (write_room k xs room)) named (by_instants t xs room)
+  writing xs room = subst (λ (k : Answer Datetime64Type). WrittenByInstants t xs room (write_answer k xs room) (write_room k xs room)) named (by_instants t xs room)

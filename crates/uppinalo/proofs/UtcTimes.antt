@@ -1,4 +1,5 @@
 -- TT2000 with leap seconds: what the crate `tt2000` proves, of the calls.
+use Rattle.std.specs.Prelude.{Result, Ok, Err}
 use mathlib.Core.Path.{◌≡◌, refl, sym, ap, ◌∙◌}
 use mathlib.Core.Bool.{Bool, true, false, ◌&&◌, true≢false}
 use mathlib.Core.List.{List}
@@ -26,8 +27,6 @@ use Rattle.leap_seconds.specs.Leaps.{leaps, is_good}
 use Rattle.leap_seconds.proofs.Listed.{Listed, listed}
 use Rattle.tt2000.specs.Tt2000.{start_of, after_start, read_tt2000, date_of_utc, day_second, is_leap_date, is_second, is_utc_time, write_tt2000}
 use Rattle.tt2000.specs.declared.UtcFields.{UtcFields}
-use Rattle.tt2000.specs.declared.UtcAnswer.{UtcAnswer}
-use Rattle.tt2000.specs.declared.Tt2000Answer.{Tt2000Answer}
 use Rattle.tt2000.proofs.Numbers.{Limited, in_bits, too_great, limits, start_is}
 use Rattle.tt2000.proofs.Writing.{UtcTime, time_of_lem, Second, plain, leap}
 use Rattle.tt2000.proofs.Answered.{number_on, read_is, Outcome, impossible, not_there, early, far, on, outcome}
@@ -37,16 +36,17 @@ use Rattle.uppinalo.specs.UtcTimes.{utc_given, tt2000_given, BadLists, LeapSecon
 use Rattle.uppinalo.specs.declared.utc.UppinaloUtcFieldsAnswer.{UppinaloUtcFieldsAnswer}
 use Rattle.uppinalo.specs.declared.utc.UppinaloTt2000Answer.{UppinaloTt2000Answer}
 use Rattle.uppinalo.proofs.WhyRefused.{date_told}
+use Rattle.refusal.specs.declared.Refusal.{Refusal}
 
 -- ---- answers and what they say
 
-utc_is : (a : UtcAnswer) (f : UtcFields) → of_utc a ≡ utc_given f → a ≡ UtcAnswer.Is f
-utc_is (UtcAnswer.Is g) f h = ap UtcAnswer.Is (ap (λ (r : UppinaloUtcFieldsAnswer). r.fields) h)
-utc_is (UtcAnswer.Refused r) f h = absurd (not_success r (ap (λ (a : UppinaloUtcFieldsAnswer). a.number) h))
+utc_is : (a : Result UtcFields Refusal) (f : UtcFields) → of_utc a ≡ utc_given f → a ≡ Ok f
+utc_is (Ok g) f h = ap Ok (ap (λ (r : UppinaloUtcFieldsAnswer). r.fields) h)
+utc_is (Err r) f h = absurd (not_success r (ap (λ (a : UppinaloUtcFieldsAnswer). a.number) h))
 
-tt2000_is : (a : Tt2000Answer) (t : ℤ) → of_tt2000 a ≡ tt2000_given t → a ≡ Tt2000Answer.Is t
-tt2000_is (Tt2000Answer.Is u) t h = ap Tt2000Answer.Is (ap (λ (r : UppinaloTt2000Answer). r.tt2000) h)
-tt2000_is (Tt2000Answer.Refused r) t h = absurd (not_success r (ap (λ (a : UppinaloTt2000Answer). a.number) h))
+tt2000_is : (a : Result ℤ Refusal) (t : ℤ) → of_tt2000 a ≡ tt2000_given t → a ≡ Ok t
+tt2000_is (Ok u) t h = ap Ok (ap (λ (r : UppinaloTt2000Answer). r.tt2000) h)
+tt2000_is (Err r) t h = absurd (not_success r (ap (λ (a : UppinaloTt2000Answer). a.number) h))
 
 -- ---- a list that is not good
 
@@ -61,11 +61,11 @@ module _ (s : List ℕ) (good : is_good s ≡ true) (f : UtcFields) where
   not_bad : (of_tt2000 (write_tt2000 s f)).number ≡ 14 → ⊥
   not_bad = go (outcome s good f)
     where
-      held : {z : ℤ} {a : Tt2000Answer} → Limited z a → (of_tt2000 a).number ≡ 14 → ⊥
+      held : {z : ℤ} {a : Result ℤ Refusal} → Limited z a → (of_tt2000 a).number ≡ 14 → ⊥
       held (in_bits e) h = omega arith
       held too_great h = omega arith
 
-      go : {a : Tt2000Answer} → Outcome s good f a → (of_tt2000 a).number ≡ 14 → ⊥
+      go : {a : Result ℤ Refusal} → Outcome s good f a → (of_tt2000 a).number ≡ 14 → ⊥
       go (impossible g) h = omega arith
       go (not_there p g) h = omega arith
       go (early p g b) h = omega arith
@@ -78,7 +78,7 @@ bad_lists s = go (is_good s) refl
   where
     go : (t : Bool) → is_good s ≡ t → BadLists s
     go false e = record { reading = λ t. ((λ _. e), λ _. rw e); writing = λ f. ((λ _. e), λ _. rw e) }
-    go true e = record { reading = λ t. ((λ h. absurd (after_start_lem s (t -ℤ start_of (leaps s)) (ap (λ (a : UtcAnswer). (of_utc a).number) (sym (read_is s e t)) ∙ h))), λ h. absurd (true≢false (sym e ∙ h))); writing = λ f. ((λ h. absurd (not_bad s e f h)), λ h. absurd (true≢false (sym e ∙ h))) }
+    go true e = record { reading = λ t. ((λ h. absurd (after_start_lem s (t -ℤ start_of (leaps s)) (ap (λ (a : Result UtcFields Refusal). (of_utc a).number) (sym (read_is s e t)) ∙ h))), λ h. absurd (true≢false (sym e ∙ h))); writing = λ f. ((λ h. absurd (not_bad s e f h)), λ h. absurd (true≢false (sym e ∙ h))) }
 
 module _ (s : List ℕ) (good : is_good s ≡ true) where
   abbrev l : Listed s
@@ -103,7 +103,7 @@ module _ (s : List ℕ) (good : is_good s ≡ true) where
       test z e = λ i. lt_z (number_is t z e i) (start_is s l i)
 
       number : (z : ℤ) → t -ℤ start_of (leaps s) ≡ z → (uppinalo_read_tt2000 s t).number ≡ (of_utc (after_start (leaps s) z)).number
-      number z e = ap (λ (a : UtcAnswer). (of_utc a).number) (read_is s good t ∙ ap (after_start (leaps s)) e)
+      number z e = ap (λ (a : Result UtcFields Refusal). (of_utc a).number) (read_is s good t ∙ ap (after_start (leaps s)) e)
 
       go : (z : ℤ) → t -ℤ start_of (leaps s) ≡ z → Read t
       go (pos n) e = later (number (pos n) e) (test (pos n) e ∙ (sub_lt n 0 883655957816000000 ∙ le-ltb n 0 (omega arith)))
@@ -179,13 +179,13 @@ module _ (s : List ℕ) (good : is_good s ≡ true) where
 
     -- ---- the numbers of writing
 
-    number_of : {a : Tt2000Answer} → a ≡ write_tt2000 s f → (uppinalo_write_tt2000 s f).number ≡ (of_tt2000 a).number
-    number_of e = ap (λ (a : Tt2000Answer). (of_tt2000 a).number) (sym e)
+    number_of : {a : Result ℤ Refusal} → a ≡ write_tt2000 s f → (uppinalo_write_tt2000 s f).number ≡ (of_tt2000 a).number
+    number_of e = ap (λ (a : Result ℤ Refusal). (of_tt2000 a).number) (sym e)
 
     -- fields that lie past 64 bits are not read
-    unread : write_tt2000 s f ≡ Tt2000Answer.Refused OutOfRange → (t : ℤ) → SFits w64 t → uppinalo_read_tt2000 s t ≡ utc_given f → ⊥
+    unread : write_tt2000 s f ≡ Err OutOfRange → (t : ℤ) → SFits w64 t → uppinalo_read_tt2000 s t ≡ utc_given f → ⊥
     unread e t fits h =
-        let k : Tt2000Answer.Refused OutOfRange ≡ Tt2000Answer.Is t = sym e ∙ Theorems.write_undoes_read s good t f fits (utc_is (read_tt2000 s t) f h) in
+        let k : Err OutOfRange ≡ Ok t = sym e ∙ Theorems.write_undoes_read s good t f fits (utc_is (read_tt2000 s t) f h) in
         absurd (let y : ◌≡◌ {A = ℕ} 0 1 = (cc) in omega arith)
 
     pub refused : UtcRefused s f (uppinalo_write_tt2000 s f).number
@@ -206,17 +206,17 @@ module _ (s : List ℕ) (good : is_good s ≡ true) where
               written = λ _ _ _ no. k ∙ zero-else (λ e. no (k ∙ e));
             }
 
-        is_past : is_utc_time (leaps s) f ≡ true → exists ProlepticGregorian (date_of_utc f) ≡ true → earlier (date_of_utc f) (date (pos 1972) 1 1) ≡ false → Tt2000Answer.Refused OutOfRange ≡ write_tt2000 s f → UtcRefused s f (uppinalo_write_tt2000 s f).number
+        is_past : is_utc_time (leaps s) f ≡ true → exists ProlepticGregorian (date_of_utc f) ≡ true → earlier (date_of_utc f) (date (pos 1972) 1 1) ≡ false → Err OutOfRange ≡ write_tt2000 s f → UtcRefused s f (uppinalo_write_tt2000 s f).number
         is_past h g b e = from_1972 h g b 5 (number_of e) (omega arith) (λ j. omega arith) (λ _. unread (sym e)) (λ _. number_of e) (λ no. absurd (no refl))
 
-        is_given : (z : ℤ) → is_utc_time (leaps s) f ≡ true → exists ProlepticGregorian (date_of_utc f) ≡ true → earlier (date_of_utc f) (date (pos 1972) 1 1) ≡ false → Tt2000Answer.Is z ≡ write_tt2000 s f → UtcRefused s f (uppinalo_write_tt2000 s f).number
+        is_given : (z : ℤ) → is_utc_time (leaps s) f ≡ true → exists ProlepticGregorian (date_of_utc f) ≡ true → earlier (date_of_utc f) (date (pos 1972) 1 1) ≡ false → Ok z ≡ write_tt2000 s f → UtcRefused s f (uppinalo_write_tt2000 s f).number
         is_given z h g b e = from_1972 h g b 0 (number_of e) (omega arith) (λ j. omega arith) (λ j. absurd (omega (arith, number_of e, j))) (λ w. absurd (w z (Theorems.written_fits s good f z (sym e)) (ap of_utc (Theorems.read_undoes_write s good f z (sym e))))) (λ _. refl)
 
-        held : {z : ℤ} {a : Tt2000Answer} → Limited z a → a ≡ write_tt2000 s f → is_utc_time (leaps s) f ≡ true → exists ProlepticGregorian (date_of_utc f) ≡ true → earlier (date_of_utc f) (date (pos 1972) 1 1) ≡ false → UtcRefused s f (uppinalo_write_tt2000 s f).number
+        held : {z : ℤ} {a : Result ℤ Refusal} → Limited z a → a ≡ write_tt2000 s f → is_utc_time (leaps s) f ≡ true → exists ProlepticGregorian (date_of_utc f) ≡ true → earlier (date_of_utc f) (date (pos 1972) 1 1) ≡ false → UtcRefused s f (uppinalo_write_tt2000 s f).number
         held {z} (in_bits i) e h g b = is_given z h g b e
         held too_great e h g b = is_past h g b e
 
-        go : {a : Tt2000Answer} → Outcome s good f a → a ≡ write_tt2000 s f → UtcRefused s f (uppinalo_write_tt2000 s f).number
+        go : {a : Result ℤ Refusal} → Outcome s good f a → a ≡ write_tt2000 s f → UtcRefused s f (uppinalo_write_tt2000 s f).number
         go (impossible g) e =
             let k = number_of e in
             record { impossible = ((λ _. told g), λ _. k); missing = ((λ j. absurd (omega (arith, k, j))), λ w. absurd (w.0 (told g))); early = ((λ j. absurd (omega (arith, k, j))), λ w. absurd (w.0 (told g))); past = ((λ j. absurd (omega (arith, k, j))), λ w. absurd (w.0 (told g))); written = λ no _ _ _. absurd (no k) }
@@ -242,7 +242,7 @@ module _ (s : List ℕ) (good : is_good s ≡ true) where
         written_back = λ t f fits h. ap of_tt2000 (Theorems.write_undoes_read s good t f fits (utc_is (read_tt2000 s t) f h));
         read_back = λ f t h. let k = tt2000_is (write_tt2000 s f) t h in (Theorems.written_fits s good f t k, ap of_utc (Theorems.read_undoes_write s good f t k));
         second_60 = λ t f h e. let k = Theorems.second_60 s good t f (utc_is (read_tt2000 s t) f h) e in leap_second_of f k.0 k.1 e k.2;
-        leap_second = λ f p n past. ap (λ (a : Tt2000Answer). (of_tt2000 a).number) (Theorems.leap_second s good f (p.hour, p.minute, p.second) (omega arith) (leap_date_of f p) (λ e. past (ap (λ (a : Tt2000Answer). (of_tt2000 a).number) e))).1;
+        leap_second = λ f p n past. ap (λ (a : Result ℤ Refusal). (of_tt2000 a).number) (Theorems.leap_second s good f (p.hour, p.minute, p.second) (omega arith) (leap_date_of f p) (λ e. past (ap (λ (a : Result ℤ Refusal). (of_tt2000 a).number) e))).1;
         day_10957 = day_10957;
         nanosecond_0 = λ h. ap of_utc (Theorems.nanosecond_0 s good h);
         refused = refused;

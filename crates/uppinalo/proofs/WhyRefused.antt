@@ -1,4 +1,5 @@
 -- Why a date is refused: 4, 12 and 13 are each given exactly where specs/RefusedDates.antt says.
+use Rattle.std.specs.Prelude.{Result, Ok, Err}
 use mathlib.Core.Path.{◌≡◌, refl, sym, ap, ◌∙◌, subst}
 use mathlib.Core.Bool.{Bool, true, false, ◌&&◌, and-false, cond, true≢false}
 use mathlib.Core.List.{List}
@@ -17,17 +18,14 @@ use Rattle.calendar.specs.Answers.{is_month, is_month_day, is_possible, day_numb
 use Rattle.calendar.specs.declared.Calendar.{Calendar}
 use Rattle.calendar.specs.declared.Calendar.TheVariants.{NoLeap}
 use Rattle.calendar.specs.declared.Date.{Date}
-use Rattle.calendar.specs.declared.DayAnswer.{DayAnswer}
 use Rattle.calendar.proofs.Existing.{dropped_not_there}
 use Rattle.calendar.proofs.Answering.{DayOutcome, past, impossible, missing, was_dropped, there, day_outcome}
 use Rattle.calendar.proofs.Possible.{month_of, day_of_lem, month_had, day_had, dropped_only, dropped_all}
 use Rattle.calendar.proofs.Theorems.{Numbered, answered}
 use Rattle.instant.specs.Instant.{day_of, time_of, in_range, instant_at, fields_at, fields_answer, date_in, is_clock, clock_time, with_clock, instant_with}
 use Rattle.instant.specs.declared.Fields.{Fields}
-use Rattle.instant.specs.declared.InstantAnswer.{InstantAnswer}
 use Rattle.instant.proofs.Theorems.{time_small, shown, refused_as_date, fields_had, fields_of_instant}
 use Rattle.calendar.specs.Cutover.{first_cutover}
-use Rattle.cutover.specs.declared.CalendarAnswer.{CalendarAnswer}
 use Rattle.cutover.proofs.Theorems.{noleap, any_cutover}
 use Rattle.named_text.specs.Texts.{named_calendar}
 use Rattle.grammar.specs.Grammar.{Derives}
@@ -75,8 +73,8 @@ Other n = (n ≡ 4 → ⊥) × (n ≡ 12 → ⊥) × (n ≡ 13 → ⊥)
 module _ (Impossible : Type 0) (rest : Bool) (c : Calendar) (x : Date) (n : ℕ)
     (says : ((rest && is_possible x.month x.day) ≡ false) ↔ Impossible)
     (inside : in_years x.year ≡ true)
-    (refused : (r : Refusal) → DayAnswer.Refused r ≡ day_with rest c x → n ≡ number_of r)
-    (given : DayAnswer.Is (day_number c x) ≡ day_with rest c x → Other n)
+    (refused : (r : Refusal) → Err r ≡ day_with rest c x → n ≡ number_of r)
+    (given : Ok (day_number c x) ≡ day_with rest c x → Other n)
   where
     why : WhyRefused Impossible c x n
     why = go (day_outcome rest c x) refl
@@ -84,7 +82,7 @@ module _ (Impossible : Type 0) (rest : Bool) (c : Calendar) (x : Date) (n : ℕ)
         fine : (rest && is_possible x.month x.day) ≡ true → Impossible → ⊥
         fine p i = true≢false (sym p ∙ says.1 i)
 
-        go : {a : DayAnswer} → DayOutcome rest c x a → a ≡ day_with rest c x → WhyRefused Impossible c x n
+        go : {a : Result ℤ Refusal} → DayOutcome rest c x a → a ≡ day_with rest c x → WhyRefused Impossible c x n
         go (past h) e = absurd (true≢false (sym inside ∙ h))
         go (impossible h p) e =
             let k = refused Refusal.ImpossibleField e in
@@ -189,14 +187,14 @@ module _ (w : WrittenDate) where
 
 date_why : (g : GivenCalendar) (x : Date) → in_years x.year ≡ true → WhyRefused (ImpossibleDate x) g.calendar x (uppinalo_day_of_date (calendar_code g.calendar) g.cutover x).number
 date_why g x h =
-    why (ImpossibleDate x) true c x (uppinalo_day_of_date (calendar_code c) g.cutover x).number (date_told x) h (λ r e. number_is (DayAnswer.Refused r) e)
-    (λ e. let k = number_is (DayAnswer.Is (day_number c x)) e in ((λ j. omega (arith, k, j)), (λ j. omega (arith, k, j)), λ j. omega (arith, k, j)))
+    why (ImpossibleDate x) true c x (uppinalo_day_of_date (calendar_code c) g.cutover x).number (date_told x) h (λ r e. number_is (Err r) e)
+    (λ e. let k = number_is (Ok (day_number c x)) e in ((λ j. omega (arith, k, j)), (λ j. omega (arith, k, j)), λ j. omega (arith, k, j)))
   where
     c : Calendar
     c = g.calendar
 
-    number_is : (a : DayAnswer) → a ≡ day_with true c x → (uppinalo_day_of_date (calendar_code c) g.cutover x).number ≡ (of_day a).number
-    number_is a e = ap (λ (k : UppinaloDayAnswer). k.number) (day_is g x) ∙ ap (λ (k : DayAnswer). (of_day k).number) (sym e)
+    number_is : (a : Result ℤ Refusal) → a ≡ day_with true c x → (uppinalo_day_of_date (calendar_code c) g.cutover x).number ≡ (of_day a).number
+    number_is a e = ap (λ (k : UppinaloDayAnswer). k.number) (day_is g x) ∙ ap (λ (k : Result ℤ Refusal). (of_day k).number) (sym e)
 
 fields_why : (a : GivenAxis) (f : Fields) → in_range a.calendar a.reference ≡ true → in_years f.year ≡ true → WhyRefused (ImpossibleFields f) a.calendar (date_in f) (uppinalo_write_fields (axis_codes a) f).number
 fields_why a f g h =
@@ -211,7 +209,7 @@ fields_why a f g h =
         (no 4 (λ j. omega (arith, j)) (λ j. omega (arith, j)), no 12 (λ j. omega (arith, j)) (λ j. omega (arith, j)), no 13 (λ j. omega (arith, j)) (λ j. omega (arith, j)))
 
 -- a text whose number is that of the instant of its date
-module _ (c : Calendar) (w : WrittenDate) (number : InstantAnswer → ℕ) (of-refused : (r : Refusal) → number (InstantAnswer.Refused r) ≡ number_of r) (of_instant_lem : (t : ℤ) → number (InstantAnswer.Is t) ≡ 0) (short : w.year ≤ 9999) where
+module _ (c : Calendar) (w : WrittenDate) (number : Result ℤ Refusal → ℕ) (of-refused : (r : Refusal) → number (Err r) ≡ number_of r) (of_instant_lem : (t : ℤ) → number (Ok t) ≡ 0) (short : w.year ≤ 9999) where
   written_why : WhyRefused (ImpossibleWritten w) c (date_in (local_fields w)) (number (written_instant c w))
   unfolding written_instant instant_with
   written_why =
@@ -219,26 +217,26 @@ module _ (c : Calendar) (w : WrittenDate) (number : InstantAnswer → ℕ) (of-r
       (λ r e. ap through (sym e) ∙ of-refused r)
       (λ e. subst Other (ap through e) (ranged_other (in_range c at)))
     where
-      through : DayAnswer → ℕ
+      through : Result ℤ Refusal → ℕ
       through a = number (less_zone c w.time.zone (with_clock a (local_fields w)))
 
       at : ℤ
       at = local_instant c w -ℤ ahead w.time.zone
 
-      ranged_other : (b : Bool) → Other (number (cond b (InstantAnswer.Is at) (InstantAnswer.Refused Refusal.OutOfRange)))
+      ranged_other : (b : Bool) → Other (number (cond b (Ok at) (Err Refusal.OutOfRange)))
       ranged_other true = let k = of_instant_lem at in ((λ j. omega (arith, k, j)), (λ j. omega (arith, k, j)), λ j. omega (arith, k, j))
       ranged_other false = let k = of-refused Refusal.OutOfRange in ((λ j. omega (arith, k, j)), (λ j. omega (arith, k, j)), λ j. omega (arith, k, j))
 
-module _ (name : List ℕ) (cutover : Date) (text : List ℕ) (c : Calendar) (l : length text ≤ 128) (n : named_calendar name cutover ≡ CalendarAnswer.Is c) where
+module _ (name : List ℕ) (cutover : Date) (text : List ℕ) (c : Calendar) (l : length text ≤ 128) (n : named_calendar name cutover ≡ Ok c) where
   units_why : (u : Units) → Derives units text u → WhyRefused (ImpossibleWritten u.reference) c (date_in (local_fields u.reference)) (uppinalo_read_units name cutover text).number
   units_why u d =
       subst (WhyRefused (ImpossibleWritten u.reference) c (date_in (local_fields u.reference))) (sym (ap (λ (a : UppinaloAxisAnswer). a.number) ((texts name cutover text c l n).units_read u d)))
-      (written_why c u.reference (λ (a : InstantAnswer). (of_axis (axis_at c u a) cutover).number) (λ r. refl) (λ t. refl) (let q = date_at_end text u d in year_derived q.0 u.reference q.1))
+      (written_why c u.reference (λ (a : Result ℤ Refusal). (of_axis (axis_at c u a) cutover).number) (λ r. refl) (λ t. refl) (let q = date_at_end text u d in year_derived q.0 u.reference q.1))
 
   iso_why : (w : WrittenDate) → Derives date_rule text w → WhyRefused (ImpossibleWritten w) c (date_in (local_fields w)) (uppinalo_read_iso name cutover text).number
   iso_why w d =
       subst (WhyRefused (ImpossibleWritten w) c (date_in (local_fields w))) (sym (ap (λ (a : UppinaloReading). a.number) ((texts name cutover text c l n).iso_read w d)))
-      (written_why c w (λ (a : InstantAnswer). (of_instant a).number) (λ r. refl) (λ t. refl) (year_derived text w d))
+      (written_why c w (λ (a : Result ℤ Refusal). (of_instant a).number) (λ r. refl) (λ t. refl) (year_derived text w d))
 
 pub refused_dates : RefusedDates
 refused_dates = record { day_of_date = date_why; write_fields = fields_why; read_units_lem = λ name cutover text c u l n d. units_why name cutover text c l n u d; read_iso_lem = λ name cutover text c w l n d. iso_why name cutover text c l n w d }

@@ -1,4 +1,5 @@
 -- Demand 2, writing: Inexact exactly where no 64-bit offset reads as the instant, and else what is written reads as it.
+use Rattle.std.specs.Prelude.{Result, Ok, Err}
 use mathlib.Core.Path.{◌≡◌, refl, sym, ap, ◌∙◌, subst}
 use mathlib.Core.Bool.{true}
 use Prim.Native.Nat.{ℕ}
@@ -13,12 +14,8 @@ use Rattle.calendar.specs.Answers.{day_number}
 use Rattle.calendar.proofs.Answering.{year_out}
 use Rattle.instant.specs.Instant.{instant_at, in_range, fields_answer, date_in, is_clock, clock_time, instant_answer}
 use Rattle.instant.specs.declared.Fields.{Fields}
-use Rattle.instant.specs.declared.FieldsAnswer.{FieldsAnswer}
-use Rattle.instant.specs.declared.InstantAnswer.{InstantAnswer}
 use Rattle.instant.proofs.Theorems.{shown, refused_as_date, fields_had, fields_of_instant}
 use Rattle.axis_types.specs.declared.Axis.{Axis}
-use Rattle.axis_types.specs.declared.Reading.{Reading}
-use Rattle.axis_types.specs.declared.OffsetAnswer.{OffsetAnswer}
 use Rattle.axis.specs.Axis.{read_whole_on, whole_back, write_instant_on, write_fields_on}
 use Rattle.axis.proofs.Laws.{good_in}
 use Rattle.axis.proofs.Demands as Axes
@@ -33,20 +30,20 @@ module _ (x : GivenAxis) (g : GoodReference x) where
   abbrev b : Axis
   b = axis_given x
 
-  reads_as : (n t : ℤ) → read_whole_on b n ≡ Reading.At t true → ReadsAt (uppinalo_read_whole (axis_codes x) n) t true
+  reads_as : (n t : ℤ) → read_whole_on b n ≡ Ok (t, true) → ReadsAt (uppinalo_read_whole (axis_codes x) n) t true
   reads_as n t h = at_reading (uppinalo_read_whole (axis_codes x) n) (whole_back b n) t true (whole_is x n h)
 
-  reads_back : (n t : ℤ) → ReadsAt (uppinalo_read_whole (axis_codes x) n) t true → read_whole_on b n ≡ Reading.At t true
+  reads_back : (n t : ℤ) → ReadsAt (uppinalo_read_whole (axis_codes x) n) t true → read_whole_on b n ≡ Ok (t, true)
   reads_back n t h = reading_at_lem (read_whole_on b n) (whole_back b n) t true (subst (λ (a : UppinaloReading). ReadsAt a t true) (whole_is x n refl) h)
 
   module _ (t : ℤ) (h : in_range x.calendar t ≡ true) where
-    exactly : (a : OffsetAnswer) → write_instant_on b t ≡ a → WritesExactly x t (of_offset a)
-    exactly (OffsetAnswer.Is n) e =
+    exactly : (a : Result ℤ Refusal) → write_instant_on b t ≡ a → WritesExactly x t (of_offset a)
+    exactly (Ok n) e =
         let w = Axes.writing b (good_in b g) in
         let f = w.written_fits t n e in
         let r = reads_as n t (w.written_reads t n e) in
         record { inexact = ((λ k. absurd (omega arith)), λ none. absurd (none n f r)); written = λ k. (refl, f, r) }
-    exactly (OffsetAnswer.Refused r) e =
+    exactly (Err r) e =
         let w = Axes.writing b (good_in b g) in
         let none : (n : ℤ) → SFits w64 n → ReadsAt (uppinalo_read_whole (axis_codes x) n) t true → ⊥ = λ n f k. let m = sym e ∙ w.read_writes n t true (reads_back n t k) in (let z : ◌≡◌ {A = ℕ} 0 1 = cc in omega arith) in
         let m = sym e ∙ w.none_inexact t h (λ n f k. none n f (reads_as n t k)) in
@@ -60,10 +57,10 @@ module _ (x : GivenAxis) (g : GoodReference x) where
     abbrev at : ℤ
     at = instant_at (day_number x.calendar (date_in f)) (clock_time f)
 
-    has : instant_answer x.calendar f ≡ InstantAnswer.Is at
+    has : instant_answer x.calendar f ≡ Ok at
     has = sym (fields_had x.calendar f h.year h.there h.clock)
 
-    fields_at : fields_answer x.calendar at ≡ FieldsAnswer.Is f
+    fields_at : fields_answer x.calendar at ≡ Ok f
     fields_at = fields_of_instant x.calendar f at has
 
     pub fields_written : WritesExactly x at (uppinalo_write_fields (axis_codes x) f)
@@ -72,7 +69,7 @@ module _ (x : GivenAxis) (g : GoodReference x) where
         subst (WritesExactly x at) (sym (write_is x (λ (a : Axis). write_fields_on a f) ∙ ap of_offset (Axes.fields_written b f at has i))) (exactly at i (write_instant_on b at) refl)
 
   -- fields that are refused are refused so when they are written
-  pub refused_fields : (f : Fields) (r : Refusal) → instant_answer x.calendar f ≡ InstantAnswer.Refused r → uppinalo_write_fields (axis_codes x) f ≡ no_offset r
+  pub refused_fields : (f : Fields) (r : Refusal) → instant_answer x.calendar f ≡ Err r → uppinalo_write_fields (axis_codes x) f ≡ no_offset r
   refused_fields f r e = write_is x (λ (a : Axis). write_fields_on a f) ∙ ap of_offset (Axes.fields_refused b (good_in b g) f r e)
 
   pub writing : WritingBack x

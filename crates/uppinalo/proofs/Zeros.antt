@@ -1,4 +1,5 @@
 -- Demand 1: a refused answer has zeros beside its number, and what was lent to be written is as it was.
+use Rattle.std.specs.Prelude.{Option, Result, Ok, Err}
 use mathlib.Core.Path.{refl}
 use mathlib.Core.Bool.{Bool, true, false, cond}
 use mathlib.Core.List.{List, ◌++◌}
@@ -9,31 +10,18 @@ use lib.ListN.{length, drop}
 use Rattle.refusal.specs.declared.Refusal.TheVariants.{NoRoom}
 use Rattle.calendar.specs.Answers.{date_answer, day_answer}
 use Rattle.calendar.specs.declared.Date.{Date}
-use Rattle.calendar.specs.declared.DateAnswer.{DateAnswer}
-use Rattle.calendar.specs.declared.DayAnswer.{DayAnswer}
 use Rattle.instant.specs.Instant.{fields_answer}
-use Rattle.instant.specs.declared.FieldsAnswer.{FieldsAnswer}
-use Rattle.instant.specs.declared.InstantAnswer.{InstantAnswer}
 use Rattle.axis_types.specs.declared.Axis.{Axis}
-use Rattle.axis_types.specs.declared.Reading.{Reading}
-use Rattle.axis_types.specs.declared.OffsetAnswer.{OffsetAnswer}
 use Rattle.axis.specs.Axis.{axis_check, read_whole_on, whole_back, read_double_on, double_back, write_instant_on, write_fields_on}
-use Rattle.runs.specs.Run.{rounded_count, overlaid, run_check, check_answer, chosen}
-use Rattle.runs.specs.declared.Check.{Check}
+use Rattle.runs.specs.Run.{rounded_count, overlaid, run_check, check_answer, chosen, Check}
 use Rattle.iso_form.specs.Form.{length_answer, over}
-use Rattle.iso_form.specs.declared.LengthAnswer.{LengthAnswer}
 use Rattle.iso_text.specs.Iso.{text_of, iso_length, iso_room, read_iso, write_iso, room_iso}
 use Rattle.axis_text.specs.Units.{read_units}
-use Rattle.axis_text.specs.declared.AxisAnswer.{AxisAnswer}
-use Rattle.datetime64_type.specs.declared.identifier.TypeAnswer.{TypeAnswer}
+use Rattle.datetime64_type.specs.declared.Datetime64Type.{Datetime64Type}
 use Rattle.datetime64_runs.specs.Records.{record_count}
 use Rattle.datetime64_runs.specs.Runs.{type_named, read_check, instants_over, read_answer, read_destination, write_check, records_over, write_answer, write_room}
 use Rattle.tt2000.specs.Tt2000.{read_tt2000, write_tt2000}
-use Rattle.tt2000.specs.declared.UtcAnswer.{UtcAnswer}
-use Rattle.tt2000.specs.declared.Tt2000Answer.{Tt2000Answer}
-use Rattle.cutover.specs.declared.CalendarAnswer.{CalendarAnswer}
 use Rattle.codes.specs.Codes.{calendar_given, coded_axis}
-use Rattle.codes.specs.declared.CodedAxis.{CodedAxis}
 use Rattle.uppinalo.specs.Days.{of_date, of_day, of_fields, date_by_code, day_by_code, fields_by_code}
 use Rattle.uppinalo.specs.Offsets.{of_reading, read_on, of_offset, write_on}
 use Rattle.uppinalo.specs.Runs.{run_on, destination_on}
@@ -41,92 +29,97 @@ use Rattle.uppinalo.specs.Texts.{of_instant, of_axis, of_length, length_by_code,
 use Rattle.uppinalo.specs.Utc.{of_utc, of_tt2000}
 use Rattle.uppinalo.proofs.SoFar.{end_outcome}
 use Rattle.uppinalo.specs.Demands.{DateOrZero, DayOrZero, FieldsOrZero, ReadingOrZero, OffsetOrZero, UtcFieldsOrZero, Tt2000OrZero, AxisOrZero, LengthOrZero, RunOrZero, ZeroBesideRefusal}
+use Rattle.axis_types.specs.Reading.{Reading}
+use Rattle.calendar.specs.declared.Calendar.{Calendar}
+use Rattle.instant.specs.declared.Fields.{Fields}
+use Rattle.refusal.specs.declared.Refusal.{Refusal}
+use Rattle.tt2000.specs.declared.UtcFields.{UtcFields}
 
-of_date_lem : (a : DateAnswer) → DateOrZero (of_date a)
-of_date_lem (DateAnswer.Is d) h = absurd (h refl)
-of_date_lem (DateAnswer.Refused r) h = refl
+of_date_lem : (a : Result Date Refusal) → DateOrZero (of_date a)
+of_date_lem (Ok d) h = absurd (h refl)
+of_date_lem (Err r) h = refl
 
-of_day_lem : (a : DayAnswer) → DayOrZero (of_day a)
-of_day_lem (DayAnswer.Is n) h = absurd (h refl)
-of_day_lem (DayAnswer.Refused r) h = refl
+of_day_lem : (a : Result ℤ Refusal) → DayOrZero (of_day a)
+of_day_lem (Ok n) h = absurd (h refl)
+of_day_lem (Err r) h = refl
 
-of_fields_lem : (a : FieldsAnswer) → FieldsOrZero (of_fields a)
-of_fields_lem (FieldsAnswer.Is f) h = absurd (h refl)
-of_fields_lem (FieldsAnswer.Refused r) h = refl
+of_fields_lem : (a : Result Fields Refusal) → FieldsOrZero (of_fields a)
+of_fields_lem (Ok f) h = absurd (h refl)
+of_fields_lem (Err r) h = refl
 
 of_reading_lem : (a : Reading) (k : ℕ) → ReadingOrZero (of_reading a k)
-of_reading_lem (Reading.At t exact) k h = absurd (h refl)
-of_reading_lem (Reading.Refused r) k h = (refl, refl, refl)
+of_reading_lem (Ok (t, exact)) k h = absurd (h refl)
+of_reading_lem (Err r) k h = (refl, refl, refl)
 
-of_offset_lem : (a : OffsetAnswer) → OffsetOrZero (of_offset a)
-of_offset_lem (OffsetAnswer.Is n) h = absurd (h refl)
-of_offset_lem (OffsetAnswer.Refused r) h = refl
+of_offset_lem : (a : Result ℤ Refusal) → OffsetOrZero (of_offset a)
+of_offset_lem (Ok n) h = absurd (h refl)
+of_offset_lem (Err r) h = refl
 
-of_utc_lem : (a : UtcAnswer) → UtcFieldsOrZero (of_utc a)
-of_utc_lem (UtcAnswer.Is f) h = absurd (h refl)
-of_utc_lem (UtcAnswer.Refused r) h = refl
+of_utc_lem : (a : Result UtcFields Refusal) → UtcFieldsOrZero (of_utc a)
+of_utc_lem (Ok f) h = absurd (h refl)
+of_utc_lem (Err r) h = refl
 
-of_tt2000_lem : (a : Tt2000Answer) → Tt2000OrZero (of_tt2000 a)
-of_tt2000_lem (Tt2000Answer.Is t) h = absurd (h refl)
-of_tt2000_lem (Tt2000Answer.Refused r) h = refl
+of_tt2000_lem : (a : Result ℤ Refusal) → Tt2000OrZero (of_tt2000 a)
+of_tt2000_lem (Ok t) h = absurd (h refl)
+of_tt2000_lem (Err r) h = refl
 
-of_instant_lem : (a : InstantAnswer) → ReadingOrZero (of_instant a)
-of_instant_lem (InstantAnswer.Is t) h = absurd (h refl)
-of_instant_lem (InstantAnswer.Refused r) h = (refl, refl, refl)
+of_instant_lem : (a : Result ℤ Refusal) → ReadingOrZero (of_instant a)
+of_instant_lem (Ok t) h = absurd (h refl)
+of_instant_lem (Err r) h = (refl, refl, refl)
 
-of_axis_lem : (a : AxisAnswer) (cutover : Date) → AxisOrZero (of_axis a cutover)
-of_axis_lem (AxisAnswer.Is a) cutover h = absurd (h refl)
-of_axis_lem (AxisAnswer.Refused r) cutover h = refl
+of_axis_lem : (a : Result Axis Refusal) (cutover : Date) → AxisOrZero (of_axis a cutover)
+of_axis_lem (Ok a) cutover h = absurd (h refl)
+of_axis_lem (Err r) cutover h = refl
 
 of_check : {A : Type 0} (k : Check) (n r : ℕ) (written kept : List A) → RunOrZero (check_answer k n r) kept (chosen k written kept)
-of_check Check.AllRead n r written kept h = absurd (h refl)
-of_check (Check.Refused q place) n r written kept h = (refl, refl, refl)
+of_check (Ok tt) n r written kept h = absurd (h refl)
+of_check (Err e) n r written kept h = (refl, refl, refl)
 
 of_room : (text room : List ℕ) → LengthOrZero (of_length (length_answer text room)) room (over text room)
 unfolding length_answer over
 of_room text room = go (leb (length text) (length room))
   where
-    go : (b : Bool) → LengthOrZero (of_length (cond b (LengthAnswer.Is (length text)) (LengthAnswer.Refused NoRoom))) room (cond b (text ++ drop (length text) room) room)
+    go : (b : Bool) → LengthOrZero (of_length (cond b (Ok (length text)) (Err NoRoom))) room (cond b (text ++ drop (length text) room) room)
     go true h = absurd (h refl)
     go false h = (refl, refl)
 
-of_iso : (a : FieldsAnswer) (room : List ℕ) → LengthOrZero (of_length (iso_length a room)) room (iso_room a room)
-of_iso (FieldsAnswer.Is f) room = of_room (text_of f) room
-of_iso (FieldsAnswer.Refused r) room = λ h. (refl, refl)
+of_iso : (a : Result Fields Refusal) (room : List ℕ) → LengthOrZero (of_length (iso_length a room)) room (iso_room a room)
+of_iso (Ok f) room = of_room (text_of f) room
+of_iso (Err r) room = λ h. (refl, refl)
 
-date_zero : (k : CalendarAnswer) (n : ℤ) → DateOrZero (date_by_code k n)
-date_zero (CalendarAnswer.Is c) n = of_date_lem (date_answer c n)
-date_zero (CalendarAnswer.Refused r) n = λ h. refl
+date_zero : (k : Result Calendar Refusal) (n : ℤ) → DateOrZero (date_by_code k n)
+date_zero (Ok c) n = of_date_lem (date_answer c n)
+date_zero (Err r) n = λ h. refl
 
-day_zero : (k : CalendarAnswer) (x : Date) → DayOrZero (day_by_code k x)
-day_zero (CalendarAnswer.Is c) x = of_day_lem (day_answer c x)
-day_zero (CalendarAnswer.Refused r) x = λ h. refl
+day_zero : (k : Result Calendar Refusal) (x : Date) → DayOrZero (day_by_code k x)
+day_zero (Ok c) x = of_day_lem (day_answer c x)
+day_zero (Err r) x = λ h. refl
 
-fields_zero : (k : CalendarAnswer) (t : ℤ) → FieldsOrZero (fields_by_code k t)
-fields_zero (CalendarAnswer.Is c) t = of_fields_lem (fields_answer c t)
-fields_zero (CalendarAnswer.Refused r) t = λ h. refl
+fields_zero : (k : Result Calendar Refusal) (t : ℤ) → FieldsOrZero (fields_by_code k t)
+fields_zero (Ok c) t = of_fields_lem (fields_answer c t)
+fields_zero (Err r) t = λ h. refl
 
-length_zero : (k : CalendarAnswer) (t : ℤ) (room : List ℕ) → LengthOrZero (length_by_code k t room) room (room_by_code k t room)
+length_zero : (k : Result Calendar Refusal) (t : ℤ) (room : List ℕ) → LengthOrZero (length_by_code k t room) room (room_by_code k t room)
 unfolding write_iso room_iso
-length_zero (CalendarAnswer.Is c) t room = of_iso (fields_answer c t) room
-length_zero (CalendarAnswer.Refused r) t room = λ h. (refl, refl)
+length_zero (Ok c) t room = of_iso (fields_answer c t) room
+length_zero (Err r) t room = λ h. (refl, refl)
 
-reading_zero : (k : CodedAxis) (read : Axis → Reading) (back : Axis → ℕ) → ReadingOrZero (read_on k read back)
-reading_zero (CodedAxis.Is a) read back = of_reading_lem (read a) (back a)
-reading_zero (CodedAxis.Refused r) read back = λ h. (refl, refl, refl)
+reading_zero : (k : Result Axis Refusal) (read : Axis → Reading) (back : Axis → ℕ) → ReadingOrZero (read_on k read back)
+reading_zero (Ok a) read back = of_reading_lem (read a) (back a)
+reading_zero (Err r) read back = λ h. (refl, refl, refl)
 
-offset_zero : (k : CodedAxis) (write : Axis → OffsetAnswer) → OffsetOrZero (write_on k write)
-offset_zero (CodedAxis.Is a) write = of_offset_lem (write a)
-offset_zero (CodedAxis.Refused r) write = λ h. refl
+offset_zero : (k : Result Axis Refusal) (write : Axis → Result ℤ Refusal) → OffsetOrZero (write_on k write)
+offset_zero (Ok a) write = of_offset_lem (write a)
+offset_zero (Err r) write = λ h. refl
 
-run_zero : {A : Type 0} (k : CodedAxis) (read : Axis → A → Reading) (xs : List A) (ds : List ℤ) → RunOrZero (run_on k read xs ds) ds (destination_on k read xs ds)
-run_zero (CodedAxis.Is a) read xs ds = of_check (run_check (read a) (axis_check a) xs (length ds)) (length xs) (rounded_count (read a) xs) (overlaid (read a) xs ds) ds
-run_zero (CodedAxis.Refused r) read xs ds = λ h. (refl, refl, refl)
+run_zero : {A : Type 0} (k : Result Axis Refusal) (read : Axis → A → Reading) (xs : List A) (ds : List ℤ) → RunOrZero (run_on k read xs ds) ds (destination_on k read xs ds)
+run_zero (Ok a) read xs ds = of_check (run_check (read a) (axis_check a) xs (length ds)) (length xs) (rounded_count (read a) xs) (overlaid (read a) xs ds) ds
+run_zero (Err r) read xs ds = λ h. (refl, refl, refl)
 
-read_zero : (k : TypeAnswer) (s : List ℕ) (ds : List ℤ) → RunOrZero (read_answer k s ds) ds (read_destination k s ds)
+read_zero : (k : Option Datetime64Type) (s : List ℕ) (ds : List ℤ) → RunOrZero (read_answer k s ds) ds (read_destination k s ds)
 read_zero k s ds = of_check (read_check k s (length ds)) (record_count s) 0 (instants_over k s ds) ds
 
-write_zero : (k : TypeAnswer) (xs : List ℤ) (room : List ℕ) → RunOrZero (write_answer k xs room) room (write_room k xs room)
+write_zero : (k : Option Datetime64Type) (xs : List ℤ) (room : List ℕ) → RunOrZero (write_answer k xs room) room (write_room k xs room)
 write_zero k xs room = of_check (write_check k xs (length room)) (length xs) 0 (records_over k xs room) room
 
 pub refusals : ZeroBesideRefusal

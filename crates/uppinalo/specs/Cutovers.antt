@@ -1,6 +1,6 @@
 -- What a cutover changes, of the calls: document 02, CR 8. `standard` goes by it, and is refused with 16 exactly where it is not allowed; in another
 -- calendar it changes no answer. Which dates are allowed is defined in specs/Cutover.antt of crate `calendar`.
-use Rattle.std.specs.Prelude.{◌≡◌, true, false, List, ◌↔◌, ℕ, ◌≤◌, ℤ, length}
+use Rattle.std.specs.Prelude.{◌≡◌, true, false, List, ◌↔◌, ℕ, ◌≤◌, ℤ, length, Err, Some}
 use Rattle.std.proofs.Math.Option.{some}
 use Rattle.refusal.specs.declared.Refusal.TheVariants.{CutoverNotAllowed}
 use Rattle.calendar.specs.Calendar.{row_of}
@@ -12,9 +12,6 @@ use Rattle.axis_types.specs.declared.Mode.{Mode}
 use Rattle.axis_types.specs.declared.Period.{Period}
 use Rattle.calendar_name.specs.Names.{calendar_of}
 use Rattle.codes.specs.Codes.{coded_period, coded_mode, coded_axis}
-use Rattle.codes.specs.declared.CodedAxis.{CodedAxis}
-use Rattle.codes.specs.declared.CodedMode.{CodedMode}
-use Rattle.codes.specs.declared.CodedPeriod.{CodedPeriod}
 use Rattle.codes.specs.declared.UppinaloAxis.{UppinaloAxis}
 use Rattle.units_fragments.specs.declared.UnitsState.{UnitsState}
 use Rattle.uppinalo.specs.Days.{uppinalo_date_of_day, uppinalo_day_of_date, uppinalo_fields_of}
@@ -45,7 +42,7 @@ pub record Refused16 (cutover : Date) : Type 0 where
   pub read_units_lem : (name text : List ℕ) (k : ℕ) → length text ≤ 128 → calendar_of name ≡ some (Standard k) → OnlyNotAllowed (uppinalo_read_units name cutover text).number cutover
   pub read_iso_lem : (name text : List ℕ) (k : ℕ) → length text ≤ 128 → calendar_of name ≡ some (Standard k) → OnlyNotAllowed (uppinalo_read_iso name cutover text).number cutover
   -- an axis whose period and mode are named; `OtherCodes` has the calls on it, and `PastReference` says that 5 comes later
-  pub axis : (a : UppinaloAxis) (p : Period) (m : Mode) → a.calendar ≡ 0 → a.cutover ≡ cutover → coded_period a.period ≡ CodedPeriod.Is p → coded_mode a.mode ≡ CodedMode.Is m → (coded_axis a ≡ CodedAxis.Refused CutoverNotAllowed) ↔ (allowed cutover ≡ false)
+  pub axis : (a : UppinaloAxis) (p : Period) (m : Mode) → a.calendar ≡ 0 → a.cutover ≡ cutover → coded_period a.period ≡ Some p → coded_mode a.mode ≡ Some m → (coded_axis a ≡ Err CutoverNotAllowed) ↔ (allowed cutover ≡ false)
 
 -- ---- in another calendar it changes no answer
 

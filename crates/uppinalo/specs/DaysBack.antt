@@ -1,14 +1,13 @@
 -- How far a day was moved back: document 02, CR 7, with the bound that CR 8 restates. On an axis of calendar months or years the day of the month is that of the reference; where
 -- the month that is reached lacks it, an earlier one is given, and the answer says by how many days. `MovedBack` of crate `axis`
 -- says how many there are. That a refusal has 0 beside it is part of `ZeroBesideRefusal`.
-use Rattle.std.specs.Prelude.{◌≡◌, true, List, ℕ, ℤ, Float}
+use Rattle.std.specs.Prelude.{◌≡◌, true, List, ℕ, ℤ, Float, Ok}
 use Rattle.instant.specs.Instant.{date_in}
 use Rattle.instant.specs.declared.Fields.{Fields}
 use Rattle.calendar.specs.Cutover.{cutover_days, allowed, most_back}
 use Rattle.calendar.specs.declared.Date.{Date}
 use Rattle.axis_types.specs.declared.Mode.{Mode}
 use Rattle.double.specs.Whole.{whole_of}
-use Rattle.double.specs.declared.whole.Whole.{Whole}
 use Rattle.axis.specs.MovedBack.{MonthsOrYears, CutoverMonth, MovedBack}
 use Rattle.codes.specs.Codes.{calendar_code}
 use Rattle.uppinalo.specs.Given.{GivenAxis, axis_codes}
@@ -34,7 +33,7 @@ pub record DaysBack : Type 0 where
   -- calendar months and years: the days between the reference's day and the given one, and how many they may be
   pub moved : (x : GivenAxis) → x.mode ≡ Mode.Calendar → MonthsOrYears x.period → (n : ℤ) (f g : Fields) → FieldsOn x x.reference f → WholeRead x n g → MovedBack x.calendar (date_in f) (date_in g) (uppinalo_read_whole (axis_codes x) n).days_back
   -- a double that is whole is answered as the whole offset is
-  pub whole_double : (x : GivenAxis) → x.mode ≡ Mode.Calendar → (y : Float) (n : ℤ) → whole_of y ≡ Whole.Is n → uppinalo_read_double (axis_codes x) y ≡ uppinalo_read_whole (axis_codes x) n
+  pub whole_double : (x : GivenAxis) → x.mode ≡ Mode.Calendar → (y : Float) (n : ℤ) → whole_of y ≡ Ok n → uppinalo_read_double (axis_codes x) y ≡ uppinalo_read_whole (axis_codes x) n
   -- both bounds are reached: 3, and with every cutover that is allowed its own, in the month of the dropped dates
   pub three_reached : (x : GivenAxis) × (n : ℤ) × (g : Fields) × WholeRead x n g × ((uppinalo_read_whole (axis_codes x) n).days_back ≡ 3)
   pub most_reached : (cutover : Date) → allowed cutover ≡ true

@@ -5,7 +5,7 @@
 -- An axis crosses the boundary by its codes and a cutover that its calendar carries (Given.antt): `axis_codes x` is what a caller hands in for the
 -- axis x, and `calendar_code c` for the calendar c, with its cutover beside it. `CodesOfAxes` says that these codes name it, and that no others do;
 -- `OtherCodes` what calls with codes that name nothing, or with a cutover that is not allowed, answer.
-use Rattle.std.specs.Prelude.{◌≡◌, Bool, true, false, cond, List, [], ◌∷◌, ◌++◌, map, ◌↔◌, ℕ, ◌+◌, ◌≤◌, ◌<◌, T, ℤ, pos, length, take, drop, Float}
+use Rattle.std.specs.Prelude.{◌≡◌, Bool, true, false, cond, List, [], ◌∷◌, ◌++◌, map, ◌↔◌, ℕ, ◌+◌, ◌≤◌, ◌<◌, T, ℤ, pos, length, take, drop, Float, Ok, Err, Some, None}
 use Rattle.std.proofs.Math.Option.{none, some}
 use Rattle.std.specs.Float.{nan, inf, fin}
 use Rattle.std.specs.Float.Ieee.{le}
@@ -19,7 +19,6 @@ use Rattle.calendar.specs.declared.Calendar.TheVariants.{ProlepticGregorian}
 use Rattle.calendar.specs.declared.Date.{Date}
 use Rattle.instant.specs.Instant.{day_of, time_of, in_range, fields_at, date_in, is_clock}
 use Rattle.instant.specs.declared.Fields.{Fields}
-use Rattle.instant.specs.declared.InstantAnswer.{InstantAnswer}
 use Rattle.axis_types.specs.Lengths.{length_of}
 use Rattle.axis_types.specs.declared.Period.{Period}
 use Rattle.axis_types.specs.declared.Mode.{Mode}
@@ -29,7 +28,6 @@ use Rattle.fixed_axis.specs.Demands.{Demand3, InOrder}
 use Rattle.run_ends.specs.Each.{Each}
 use Rattle.runs.specs.declared.RunAnswer.{RunAnswer}
 use Rattle.cutover.specs.Calendars.{with_cutover, Carries}
-use Rattle.cutover.specs.declared.CalendarAnswer.{CalendarAnswer}
 use Rattle.calendar_name.specs.Names.{calendar_of}
 use Rattle.named_text.specs.Texts.{named_calendar}
 use Rattle.grammar.specs.Grammar.{Derives}
@@ -39,17 +37,12 @@ use Rattle.units_text.specs.UnitsRule.{units}
 use Rattle.units_text.specs.declared.Units.{Units}
 use Rattle.written_instant.specs.Instants.{written_instant}
 use Rattle.axis_text.specs.Units.{axis_of}
-use Rattle.axis_text.specs.declared.AxisAnswer.{AxisAnswer}
 use Rattle.units_fragments.specs.Fragments.{after_each, concatenation}
 use Rattle.units_fragments.specs.declared.UnitsState.{UnitsState}
 use Rattle.datetime64_runs.specs.Records.{record_count}
 use Rattle.leap_seconds.specs.Leaps.{is_good}
 use Rattle.tt2000.specs.declared.UtcFields.{UtcFields}
 use Rattle.codes.specs.Codes.{coded_calendar, calendar_given, coded_period, coded_mode, coded_axis, calendar_code}
-use Rattle.codes.specs.declared.CodedCalendar.{CodedCalendar}
-use Rattle.codes.specs.declared.CodedPeriod.{CodedPeriod}
-use Rattle.codes.specs.declared.CodedMode.{CodedMode}
-use Rattle.codes.specs.declared.CodedAxis.{CodedAxis}
 use Rattle.codes.specs.declared.UppinaloAxis.{UppinaloAxis}
 use Rattle.uppinalo.specs.Days.{no_date, no_day, no_fields, uppinalo_date_of_day, uppinalo_day_of_date, uppinalo_fields_of}
 use Rattle.uppinalo.specs.Offsets.{no_reading, no_offset, uppinalo_read_whole, uppinalo_read_double, uppinalo_write_instant, uppinalo_write_fields}
@@ -82,18 +75,18 @@ GoodReference x = in_range x.calendar x.reference ≡ true
 
 pub record CodesOfAxes : Type 0 where
   -- the codes of an axis name it: all calendars, periods and modes
-  pub taken_back : (x : GivenAxis) → coded_axis (axis_codes x) ≡ CodedAxis.Is (axis_given x)
-  pub calendar_back : (g : GivenCalendar) → calendar_given (calendar_code g.calendar) g.cutover ≡ CalendarAnswer.Is g.calendar
+  pub taken_back : (x : GivenAxis) → coded_axis (axis_codes x) ≡ Ok (axis_given x)
+  pub calendar_back : (g : GivenCalendar) → calendar_given (calendar_code g.calendar) g.cutover ≡ Ok g.calendar
   -- and no other codes do
-  pub only_codes : (a : UppinaloAxis) (b : Axis) → coded_axis a ≡ CodedAxis.Is b → (x : GivenAxis) × (axis_given x ≡ b) × (axis_codes x ≡ a)
-  pub only_calendar : (n : ℕ) (cutover : Date) (c : Calendar) → calendar_given n cutover ≡ CalendarAnswer.Is c → (calendar_code c ≡ n) × Carries c cutover
+  pub only_codes : (a : UppinaloAxis) (b : Axis) → coded_axis a ≡ Ok b → (x : GivenAxis) × (axis_given x ≡ b) × (axis_codes x ≡ a)
+  pub only_calendar : (n : ℕ) (cutover : Date) (c : Calendar) → calendar_given n cutover ≡ Ok c → (calendar_code c ≡ n) × Carries c cutover
 
 -- codes that name no axis, where the refusal is r: 2 for the calendar, then 3 for the period or the mode, then 16 for the cutover
 pub record OtherCodes (a : UppinaloAxis) (r : Refusal) : Type 0 where
-  pub calendar_first : coded_calendar a.calendar ≡ CodedCalendar.Unknown → r ≡ UnknownCalendar
-  pub then_period : (c : Calendar) → coded_calendar a.calendar ≡ CodedCalendar.Is c → coded_period a.period ≡ CodedPeriod.Unknown → r ≡ IllFormed
-  pub then_mode : (c : Calendar) → coded_calendar a.calendar ≡ CodedCalendar.Is c → (p : Period) → coded_period a.period ≡ CodedPeriod.Is p → coded_mode a.mode ≡ CodedMode.Unknown → r ≡ IllFormed
-  pub then_cutover : (c : Calendar) → coded_calendar a.calendar ≡ CodedCalendar.Is c → (p : Period) → coded_period a.period ≡ CodedPeriod.Is p → (m : Mode) → coded_mode a.mode ≡ CodedMode.Is m → r ≡ CutoverNotAllowed
+  pub calendar_first : coded_calendar a.calendar ≡ None → r ≡ UnknownCalendar
+  pub then_period : (c : Calendar) → coded_calendar a.calendar ≡ Some c → coded_period a.period ≡ None → r ≡ IllFormed
+  pub then_mode : (c : Calendar) → coded_calendar a.calendar ≡ Some c → (p : Period) → coded_period a.period ≡ Some p → coded_mode a.mode ≡ None → r ≡ IllFormed
+  pub then_cutover : (c : Calendar) → coded_calendar a.calendar ≡ Some c → (p : Period) → coded_period a.period ≡ Some p → (m : Mode) → coded_mode a.mode ≡ Some m → r ≡ CutoverNotAllowed
   pub read_whole : (n : ℤ) → uppinalo_read_whole a n ≡ no_reading r
   pub read_double_lem : (y : Float) → uppinalo_read_double a y ≡ no_reading r
   pub write_instant_lem : (t : ℤ) → uppinalo_write_instant a t ≡ no_offset r
@@ -103,8 +96,8 @@ pub record OtherCodes (a : UppinaloAxis) (r : Refusal) : Type 0 where
 
 -- a code and a cutover that give no calendar, where the refusal is r: 2 for the code, then 16 for the cutover
 pub record OtherCalendar (calendar : ℕ) (cutover : Date) (r : Refusal) : Type 0 where
-  pub code_first : coded_calendar calendar ≡ CodedCalendar.Unknown → r ≡ UnknownCalendar
-  pub then_cutover : (c : Calendar) → coded_calendar calendar ≡ CodedCalendar.Is c → r ≡ CutoverNotAllowed
+  pub code_first : coded_calendar calendar ≡ None → r ≡ UnknownCalendar
+  pub then_cutover : (c : Calendar) → coded_calendar calendar ≡ Some c → r ≡ CutoverNotAllowed
   pub date_of_day : (n : ℤ) → uppinalo_date_of_day calendar cutover n ≡ no_date r
   pub day_of_date : (x : Date) → uppinalo_day_of_date calendar cutover x ≡ no_day r
   pub fields_of : (t : ℤ) → uppinalo_fields_of calendar cutover t ≡ no_fields r
@@ -245,12 +238,12 @@ pub record TextsByGrammar (name : List ℕ) (cutover : Date) (text : List ℕ) (
 
 -- before that, a text of more bytes, then a name that is not listed, then a cutover that its calendar does not allow
 pub record TextsBeforeGrammar (name : List ℕ) (cutover : Date) (text : List ℕ) : Type 0 where
-  pub units_long : 128 < length text → uppinalo_read_units name cutover text ≡ of_axis (AxisAnswer.Refused TextTooLong) cutover
-  pub iso_long : 128 < length text → uppinalo_read_iso name cutover text ≡ of_instant (InstantAnswer.Refused TextTooLong)
-  pub units_name : length text ≤ 128 → calendar_of name ≡ none → uppinalo_read_units name cutover text ≡ of_axis (AxisAnswer.Refused UnknownCalendar) cutover
-  pub iso_name : length text ≤ 128 → calendar_of name ≡ none → uppinalo_read_iso name cutover text ≡ of_instant (InstantAnswer.Refused UnknownCalendar)
-  pub units_cutover : length text ≤ 128 → (c : Calendar) → calendar_of name ≡ some c → (r : Refusal) → with_cutover c cutover ≡ CalendarAnswer.Refused r → uppinalo_read_units name cutover text ≡ of_axis (AxisAnswer.Refused CutoverNotAllowed) cutover
-  pub iso_cutover : length text ≤ 128 → (c : Calendar) → calendar_of name ≡ some c → (r : Refusal) → with_cutover c cutover ≡ CalendarAnswer.Refused r → uppinalo_read_iso name cutover text ≡ of_instant (InstantAnswer.Refused CutoverNotAllowed)
+  pub units_long : 128 < length text → uppinalo_read_units name cutover text ≡ of_axis (Err TextTooLong) cutover
+  pub iso_long : 128 < length text → uppinalo_read_iso name cutover text ≡ of_instant (Err TextTooLong)
+  pub units_name : length text ≤ 128 → calendar_of name ≡ none → uppinalo_read_units name cutover text ≡ of_axis (Err UnknownCalendar) cutover
+  pub iso_name : length text ≤ 128 → calendar_of name ≡ none → uppinalo_read_iso name cutover text ≡ of_instant (Err UnknownCalendar)
+  pub units_cutover : length text ≤ 128 → (c : Calendar) → calendar_of name ≡ some c → (r : Refusal) → with_cutover c cutover ≡ Err r → uppinalo_read_units name cutover text ≡ of_axis (Err CutoverNotAllowed) cutover
+  pub iso_cutover : length text ≤ 128 → (c : Calendar) → calendar_of name ≡ some c → (r : Refusal) → with_cutover c cutover ≡ Err r → uppinalo_read_iso name cutover text ≡ of_instant (Err CutoverNotAllowed)
 
 -- ---- a units text in fragments
 
@@ -329,7 +322,7 @@ pub record GivenInYears : Type 0 where
   pub read_wholes : (x : GivenAxis) (xs ds : List ℤ) → (uppinalo_read_wholes (axis_codes x) xs ds).number ≡ 0 → Each (λ (t : ℤ). in_range x.calendar t ≡ true) (take (length xs) (uppinalo_read_wholes_destination (axis_codes x) xs ds))
   pub read_doubles : (x : GivenAxis) (xs : List Float) (ds : List ℤ) → (uppinalo_read_doubles (axis_codes x) xs ds).number ≡ 0 → Each (λ (t : ℤ). in_range x.calendar t ≡ true) (take (length xs) (uppinalo_read_doubles_destination (axis_codes x) xs ds))
   pub read_datetime64 : (text s : List ℕ) (ds : List ℤ) → (uppinalo_read_datetime64 text s ds).number ≡ 0 → Each (λ (t : ℤ). in_range ProlepticGregorian t ≡ true) (take (record_count s) (uppinalo_read_datetime64_destination text s ds))
-  pub read_iso_lem : (name : List ℕ) (cutover : Date) (text : List ℕ) (c : Calendar) (t : ℤ) (exact : Bool) → named_calendar name cutover ≡ CalendarAnswer.Is c → ReadsAt (uppinalo_read_iso name cutover text) t exact → in_range c t ≡ true
+  pub read_iso_lem : (name : List ℕ) (cutover : Date) (text : List ℕ) (c : Calendar) (t : ℤ) (exact : Bool) → named_calendar name cutover ≡ Ok c → ReadsAt (uppinalo_read_iso name cutover text) t exact → in_range c t ≡ true
   -- an axis that is read is the codes of one whose reference is good, and has the cutover as it was given
   pub read_units_lem : (name : List ℕ) (cutover : Date) (text : List ℕ) → (uppinalo_read_units name cutover text).number ≡ 0 → (x : GivenAxis) × ((uppinalo_read_units name cutover text).axis ≡ axis_codes x) × (x.cutover ≡ cutover) × GoodReference x
   pub end_units : (s : UnitsState) (name : List ℕ) (cutover : Date) → (uppinalo_end_units s name cutover).number ≡ 0 → (x : GivenAxis) × ((uppinalo_end_units s name cutover).axis ≡ axis_codes x) × (x.cutover ≡ cutover) × GoodReference x
@@ -338,8 +331,8 @@ pub record GivenInYears : Type 0 where
 
 pub record Demands : Type 0 where
   pub codes : CodesOfAxes
-  pub other_codes : (a : UppinaloAxis) (r : Refusal) → coded_axis a ≡ CodedAxis.Refused r → OtherCodes a r
-  pub other_calendar : (calendar : ℕ) (cutover : Date) (r : Refusal) → calendar_given calendar cutover ≡ CalendarAnswer.Refused r → OtherCalendar calendar cutover r
+  pub other_codes : (a : UppinaloAxis) (r : Refusal) → coded_axis a ≡ Err r → OtherCodes a r
+  pub other_calendar : (calendar : ℕ) (cutover : Date) (r : Refusal) → calendar_given calendar cutover ≡ Err r → OtherCalendar calendar cutover r
   pub cutovers : Cutovers
   pub refusals : ZeroBesideRefusal
   pub dates : (g : GivenCalendar) → DatesByNextDay g.calendar g.cutover
@@ -348,7 +341,7 @@ pub record Demands : Type 0 where
   pub writing : (x : GivenAxis) → GoodReference x → WritingBack x
   pub days_back_lem : DaysBack
   pub refused_dates : RefusedDates
-  pub texts : (name : List ℕ) (cutover : Date) (text : List ℕ) (c : Calendar) → length text ≤ 128 → named_calendar name cutover ≡ CalendarAnswer.Is c → TextsByGrammar name cutover text c
+  pub texts : (name : List ℕ) (cutover : Date) (text : List ℕ) (c : Calendar) → length text ≤ 128 → named_calendar name cutover ≡ Ok c → TextsByGrammar name cutover text c
   pub before_texts : (name : List ℕ) (cutover : Date) (text : List ℕ) → TextsBeforeGrammar name cutover text
   pub fragments : TextsInFragments
   pub doubles : (x : GivenAxis) → x.mode ≡ Mode.Fixed → GoodReference x → DoublesRead x

@@ -1,7 +1,7 @@
 -- Why a date is refused, whatever is written beside it: a mistyped date told from a missing one. Document 02, CR 5. 4 is exactly for what no date
 -- of any calendar has; 12 exactly for what is possible, and this calendar lacks; 13 exactly for the dates that `standard` dropped
 -- with its cutover (CR 8).
-use Rattle.std.specs.Prelude.{◌≡◌, true, false, List, ◌↔◌, ℕ, ◌≤◌, ◌<◌, ℤ, length}
+use Rattle.std.specs.Prelude.{◌≡◌, true, false, List, ◌↔◌, ℕ, ◌≤◌, ◌<◌, ℤ, length, Ok}
 use Rattle.calendar.specs.Calendar.{days_used, exists, in_years}
 use Rattle.calendar.specs.Cutover.{dropped_dates, is_listed}
 use Rattle.calendar.specs.declared.Calendar.{Calendar}
@@ -9,7 +9,6 @@ use Rattle.calendar.specs.declared.Calendar.TheVariants.{Standard}
 use Rattle.calendar.specs.declared.Date.{Date}
 use Rattle.instant.specs.Instant.{in_range, date_in}
 use Rattle.instant.specs.declared.Fields.{Fields}
-use Rattle.cutover.specs.declared.CalendarAnswer.{CalendarAnswer}
 use Rattle.named_text.specs.Texts.{named_calendar}
 use Rattle.grammar.specs.Grammar.{Derives}
 use Rattle.date_text.specs.DateRule.{date_rule}
@@ -76,5 +75,5 @@ pub record WhyRefused (Impossible : Type 0) (c : Calendar) (x : Date) (number : 
 pub record RefusedDates : Type 0 where
   pub day_of_date : (g : GivenCalendar) (x : Date) → in_years x.year ≡ true → WhyRefused (ImpossibleDate x) g.calendar x (uppinalo_day_of_date (calendar_code g.calendar) g.cutover x).number
   pub write_fields : (a : GivenAxis) (f : Fields) → in_range a.calendar a.reference ≡ true → in_years f.year ≡ true → WhyRefused (ImpossibleFields f) a.calendar (date_in f) (uppinalo_write_fields (axis_codes a) f).number
-  pub read_units_lem : (name : List ℕ) (cutover : Date) (text : List ℕ) (c : Calendar) (u : Units) → length text ≤ 128 → named_calendar name cutover ≡ CalendarAnswer.Is c → Derives units text u → WhyRefused (ImpossibleWritten u.reference) c (date_in (local_fields u.reference)) (uppinalo_read_units name cutover text).number
-  pub read_iso_lem : (name : List ℕ) (cutover : Date) (text : List ℕ) (c : Calendar) (w : WrittenDate) → length text ≤ 128 → named_calendar name cutover ≡ CalendarAnswer.Is c → Derives date_rule text w → WhyRefused (ImpossibleWritten w) c (date_in (local_fields w)) (uppinalo_read_iso name cutover text).number
+  pub read_units_lem : (name : List ℕ) (cutover : Date) (text : List ℕ) (c : Calendar) (u : Units) → length text ≤ 128 → named_calendar name cutover ≡ Ok c → Derives units text u → WhyRefused (ImpossibleWritten u.reference) c (date_in (local_fields u.reference)) (uppinalo_read_units name cutover text).number
+  pub read_iso_lem : (name : List ℕ) (cutover : Date) (text : List ℕ) (c : Calendar) (w : WrittenDate) → length text ≤ 128 → named_calendar name cutover ≡ Ok c → Derives date_rule text w → WhyRefused (ImpossibleWritten w) c (date_in (local_fields w)) (uppinalo_read_iso name cutover text).number

@@ -2,9 +2,8 @@
 ghost use Rattle.std.specs.Prelude.{◌≡◌};
 ghost use Rattle.uppinalo.specs.Days.{no_date, no_day, no_fields, of_date, of_day, of_fields, uppinalo_date_of_day, uppinalo_day_of_date, uppinalo_fields_of};
 
-use calendar::{Date, DateAnswer, DayAnswer};
-use cutover::CalendarAnswer;
-use instant::{Fields, FieldsAnswer};
+use calendar::Date;
+use instant::Fields;
 use refusal::Refusal;
 
 #[repr(C)]
@@ -42,11 +41,11 @@ fn no_date(r: Refusal) -> UppinaloDateAnswer
     }
 }
 
-fn of_date(a: DateAnswer) -> UppinaloDateAnswer
+fn of_date(a: Result<Date, Refusal>) -> UppinaloDateAnswer
     ensures { result ≡ of_date a }
 {
     match a {
-        DateAnswer::Is(d) => {
+        Ok(d) => {
             // field by field: a date that is copied whole goes through memory
             let date = Date {
                 year: d.year,
@@ -55,7 +54,7 @@ fn of_date(a: DateAnswer) -> UppinaloDateAnswer
             };
             return UppinaloDateAnswer { number: 0, date };
         }
-        DateAnswer::Refused(r) => return no_date(r),
+        Err(r) => return no_date(r),
     }
 }
 
@@ -65,8 +64,8 @@ pub extern "C" fn uppinalo_date_of_day(calendar: u32, cutover: Date, day: i64) -
     ensures { result ≡ uppinalo_date_of_day calendar cutover day }
 {
     match codes::calendar_given(calendar, cutover) {
-        CalendarAnswer::Refused(r) => return no_date(r),
-        CalendarAnswer::Is(c) => return of_date(calendar::date_of_day(c, day)),
+        Err(refused) => return no_date(refused),
+        Ok(c) => return of_date(calendar::date_of_day(c, day)),
     }
 }
 
@@ -79,12 +78,12 @@ fn no_day(r: Refusal) -> UppinaloDayAnswer
     }
 }
 
-fn of_day(a: DayAnswer) -> UppinaloDayAnswer
+fn of_day(a: Result<i64, Refusal>) -> UppinaloDayAnswer
     ensures { result ≡ of_day a }
 {
     match a {
-        DayAnswer::Is(day) => return UppinaloDayAnswer { number: 0, day },
-        DayAnswer::Refused(r) => return no_day(r),
+        Ok(day) => return UppinaloDayAnswer { number: 0, day },
+        Err(r) => return no_day(r),
     }
 }
 
@@ -98,8 +97,8 @@ pub extern "C" fn uppinalo_day_of_date(
     ensures { result ≡ uppinalo_day_of_date calendar cutover date }
 {
     match codes::calendar_given(calendar, cutover) {
-        CalendarAnswer::Refused(r) => return no_day(r),
-        CalendarAnswer::Is(c) => return of_day(calendar::day_of_date(c, date)),
+        Err(refused) => return no_day(refused),
+        Ok(c) => return of_day(calendar::day_of_date(c, date)),
     }
 }
 
@@ -121,11 +120,11 @@ fn no_fields(r: Refusal) -> UppinaloFieldsAnswer
     }
 }
 
-fn of_fields(a: FieldsAnswer) -> UppinaloFieldsAnswer
+fn of_fields(a: Result<Fields, Refusal>) -> UppinaloFieldsAnswer
     ensures { result ≡ of_fields a }
 {
     match a {
-        FieldsAnswer::Is(f) => {
+        Ok(f) => {
             // field by field, as of a date
             let fields = Fields {
                 year: f.year,
@@ -138,7 +137,7 @@ fn of_fields(a: FieldsAnswer) -> UppinaloFieldsAnswer
             };
             return UppinaloFieldsAnswer { number: 0, fields };
         }
-        FieldsAnswer::Refused(r) => return no_fields(r),
+        Err(r) => return no_fields(r),
     }
 }
 
@@ -152,7 +151,7 @@ pub extern "C" fn uppinalo_fields_of(
     ensures { result ≡ uppinalo_fields_of calendar cutover instant }
 {
     match codes::calendar_given(calendar, cutover) {
-        CalendarAnswer::Refused(r) => return no_fields(r),
-        CalendarAnswer::Is(c) => return of_fields(instant::fields_of(c, instant)),
+        Err(refused) => return no_fields(refused),
+        Ok(c) => return of_fields(instant::fields_of(c, instant)),
     }
 }

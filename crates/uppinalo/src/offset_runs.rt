@@ -2,7 +2,7 @@
 ghost use Rattle.std.specs.Prelude.{◌≡◌};
 ghost use Rattle.uppinalo.specs.Runs.{no_run, uppinalo_read_wholes, uppinalo_read_wholes_destination, uppinalo_read_doubles, uppinalo_read_doubles_destination};
 
-use codes::{CodedAxis, UppinaloAxis};
+use codes::UppinaloAxis;
 use refusal::Refusal;
 use runs::RunAnswer;
 
@@ -28,8 +28,8 @@ pub extern "C" fn uppinalo_read_wholes(
     ensures written { destination.new ≡ uppinalo_read_wholes_destination axis source.now destination.old }
 {
     match codes::axis_of(axis) {
-        CodedAxis::Refused(r) => return no_run(r),
-        CodedAxis::Is(a) => return runs::read_wholes(a, source, destination),
+        Err(r) => return no_run(r),
+        Ok(a) => return runs::read(a, source, destination),
     }
 }
 
@@ -44,7 +44,7 @@ pub extern "C" fn uppinalo_read_doubles(
     ensures written { destination.new ≡ uppinalo_read_doubles_destination axis source.now destination.old }
 {
     match codes::axis_of(axis) {
-        CodedAxis::Refused(r) => return no_run(r),
-        CodedAxis::Is(a) => return runs::read_doubles(a, source, destination),
+        Err(r) => return no_run(r),
+        Ok(a) => return runs::read(a, source, destination),
     }
 }

@@ -1,10 +1,10 @@
 // One offset on an axis.
 ghost use Rattle.std.specs.Prelude.{◌≡◌};
-ghost use Rattle.uppinalo.specs.Offsets.{no_reading, of_reading, no_offset, of_offset, uppinalo_read_whole, uppinalo_read_double, uppinalo_write_instant, uppinalo_write_fields};
+ghost use Rattle.uppinalo.specs.Offsets.{no_reading, of_offset_reading, no_offset, of_offset, uppinalo_read_whole, uppinalo_read_double, uppinalo_write_instant, uppinalo_write_fields};
 
 use crate::texts::UppinaloReading;
-use axis_types::{OffsetAnswer, OffsetReading, Reading};
-use codes::{CodedAxis, UppinaloAxis};
+use axis_types::OffsetReading;
+use codes::UppinaloAxis;
 use instant::Fields;
 use refusal::Refusal;
 
@@ -26,18 +26,17 @@ fn no_reading(r: Refusal) -> UppinaloReading
     }
 }
 
-fn of_reading(a: OffsetReading) -> UppinaloReading
-    ensures { result ≡ of_reading a.reading a.days_back }
+fn of_reading(a: Result<OffsetReading, Refusal>) -> UppinaloReading
+    ensures { result ≡ of_offset_reading a }
 {
-    let reading = a.reading;
-    match reading {
-        Reading::At(instant, exact) => return UppinaloReading {
+    match a {
+        Ok(reading) => return UppinaloReading {
             number: 0,
-            instant,
-            exact,
-            days_back: a.days_back,
+            instant: reading.instant,
+            exact: reading.exact,
+            days_back: reading.days_back,
         },
-        Reading::Refused(r) => return no_reading(r),
+        Err(r) => return no_reading(r),
     }
 }
 
@@ -50,12 +49,12 @@ fn no_offset(r: Refusal) -> UppinaloOffsetAnswer
     }
 }
 
-fn of_offset(a: OffsetAnswer) -> UppinaloOffsetAnswer
+fn of_offset(a: Result<i64, Refusal>) -> UppinaloOffsetAnswer
     ensures { result ≡ of_offset a }
 {
     match a {
-        OffsetAnswer::Is(offset) => return UppinaloOffsetAnswer { number: 0, offset },
-        OffsetAnswer::Refused(r) => return no_offset(r),
+        Ok(offset) => return UppinaloOffsetAnswer { number: 0, offset },
+        Err(r) => return no_offset(r),
     }
 }
 
@@ -65,8 +64,8 @@ pub extern "C" fn uppinalo_read_whole(axis: UppinaloAxis, offset: i64) -> Uppina
     ensures { result ≡ uppinalo_read_whole axis offset }
 {
     match codes::axis_of(axis) {
-        CodedAxis::Refused(r) => return no_reading(r),
-        CodedAxis::Is(a) => return of_reading(axis::read_whole(a, offset)),
+        Err(r) => return no_reading(r),
+        Ok(a) => return of_reading(axis::read_whole(a, offset)),
     }
 }
 
@@ -76,8 +75,8 @@ pub extern "C" fn uppinalo_read_double(axis: UppinaloAxis, offset: f64) -> Uppin
     ensures { result ≡ uppinalo_read_double axis offset }
 {
     match codes::axis_of(axis) {
-        CodedAxis::Refused(r) => return no_reading(r),
-        CodedAxis::Is(a) => return of_reading(axis::read_double(a, offset)),
+        Err(r) => return no_reading(r),
+        Ok(a) => return of_reading(axis::read_double(a, offset)),
     }
 }
 
@@ -87,8 +86,8 @@ pub extern "C" fn uppinalo_write_instant(axis: UppinaloAxis, instant: i64) -> Up
     ensures { result ≡ uppinalo_write_instant axis instant }
 {
     match codes::axis_of(axis) {
-        CodedAxis::Refused(r) => return no_offset(r),
-        CodedAxis::Is(a) => return of_offset(axis::write_instant(a, instant)),
+        Err(r) => return no_offset(r),
+        Ok(a) => return of_offset(axis::write_instant(a, instant)),
     }
 }
 
@@ -98,7 +97,7 @@ pub extern "C" fn uppinalo_write_fields(axis: UppinaloAxis, fields: Fields) -> U
     ensures { result ≡ uppinalo_write_fields axis fields }
 {
     match codes::axis_of(axis) {
-        CodedAxis::Refused(r) => return no_offset(r),
-        CodedAxis::Is(a) => return of_offset(axis::write_fields(a, fields)),
+        Err(r) => return no_offset(r),
+        Ok(a) => return of_offset(axis::write_fields(a, fields)),
     }
 }

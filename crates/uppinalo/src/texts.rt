@@ -2,12 +2,9 @@
 ghost use Rattle.std.specs.Prelude.{◌≡◌};
 ghost use Rattle.uppinalo.specs.Texts.{no_length, of_length, uppinalo_write_iso, uppinalo_write_iso_room, of_instant, uppinalo_read_iso, no_axis, of_axis, uppinalo_read_units};
 
-use axis_text::AxisAnswer;
+use axis_types::Axis;
 use calendar::Date;
 use codes::UppinaloAxis;
-use cutover::CalendarAnswer;
-use instant::InstantAnswer;
-use iso_form::LengthAnswer;
 use refusal::Refusal;
 
 #[repr(C)]
@@ -33,17 +30,17 @@ pub struct UppinaloAxisAnswer {
     pub axis: UppinaloAxis,
 }
 
-fn of_instant(a: InstantAnswer) -> UppinaloReading
+fn of_instant(a: Result<i64, Refusal>) -> UppinaloReading
     ensures { result ≡ of_instant a }
 {
     match a {
-        InstantAnswer::Is(instant) => return UppinaloReading {
+        Ok(instant) => return UppinaloReading {
             number: 0,
             instant,
             exact: true,
             days_back: 0,
         },
-        InstantAnswer::Refused(r) => return UppinaloReading {
+        Err(r) => return UppinaloReading {
             number: refusal::number(r),
             instant: 0,
             exact: false,
@@ -77,15 +74,15 @@ pub(crate) fn no_axis(r: Refusal) -> UppinaloAxisAnswer
 }
 
 // The axis that was read, with the cutover as it was given.
-fn of_axis(a: AxisAnswer, cutover: Date) -> UppinaloAxisAnswer
+fn of_axis(a: Result<Axis, Refusal>, cutover: Date) -> UppinaloAxisAnswer
     ensures { result ≡ of_axis a cutover }
 {
     match a {
-        AxisAnswer::Is(x) => {
+        Ok(x) => {
             let axis = codes::axis_code(x, cutover);
             return UppinaloAxisAnswer { number: 0, axis };
         }
-        AxisAnswer::Refused(r) => return no_axis(r),
+        Err(r) => return no_axis(r),
     }
 }
 
@@ -110,12 +107,12 @@ fn no_length(r: Refusal) -> UppinaloLengthAnswer
     }
 }
 
-fn of_length(a: LengthAnswer) -> UppinaloLengthAnswer
+fn of_length(a: Result<usize, Refusal>) -> UppinaloLengthAnswer
     ensures { result ≡ of_length a }
 {
     match a {
-        LengthAnswer::Is(length) => return UppinaloLengthAnswer { number: 0, length },
-        LengthAnswer::Refused(r) => return no_length(r),
+        Ok(length) => return UppinaloLengthAnswer { number: 0, length },
+        Err(r) => return no_length(r),
     }
 }
 
@@ -131,7 +128,7 @@ pub extern "C" fn uppinalo_write_iso(
     ensures room_after { room.new ≡ uppinalo_write_iso_room calendar cutover instant room.old }
 {
     match codes::calendar_given(calendar, cutover) {
-        CalendarAnswer::Refused(r) => return no_length(r),
-        CalendarAnswer::Is(c) => return of_length(iso_text::write_iso(c, instant, room)),
+        Err(r) => return no_length(r),
+        Ok(c) => return of_length(iso_text::write_iso(c, instant, room)),
     }
 }

@@ -3,7 +3,7 @@ ghost use Rattle.std.specs.Prelude.{◌≡◌};
 ghost use Rattle.uppinalo.specs.Utc.{no_utc_fields, of_utc, uppinalo_read_tt2000, no_tt2000, of_tt2000, uppinalo_write_tt2000};
 
 use refusal::Refusal;
-use tt2000::{Tt2000Answer, UtcAnswer, UtcFields};
+use tt2000::UtcFields;
 
 #[repr(C)]
 #[derive(Clone, Copy)]
@@ -37,11 +37,11 @@ fn no_utc_fields(r: Refusal) -> UppinaloUtcFieldsAnswer
     }
 }
 
-fn of_utc(a: UtcAnswer) -> UppinaloUtcFieldsAnswer
+fn of_utc(a: Result<UtcFields, Refusal>) -> UppinaloUtcFieldsAnswer
     ensures { result ≡ of_utc a }
 {
     match a {
-        UtcAnswer::Is(f) => {
+        Ok(f) => {
             // field by field, as the fields of an instant
             let fields = UtcFields {
                 year: f.year,
@@ -54,7 +54,7 @@ fn of_utc(a: UtcAnswer) -> UppinaloUtcFieldsAnswer
             };
             return UppinaloUtcFieldsAnswer { number: 0, fields };
         }
-        UtcAnswer::Refused(r) => return no_utc_fields(r),
+        Err(r) => return no_utc_fields(r),
     }
 }
 
@@ -75,12 +75,12 @@ fn no_tt2000(r: Refusal) -> UppinaloTt2000Answer
     }
 }
 
-fn of_tt2000(a: Tt2000Answer) -> UppinaloTt2000Answer
+fn of_tt2000(a: Result<i64, Refusal>) -> UppinaloTt2000Answer
     ensures { result ≡ of_tt2000 a }
 {
     match a {
-        Tt2000Answer::Is(tt2000) => return UppinaloTt2000Answer { number: 0, tt2000 },
-        Tt2000Answer::Refused(r) => return no_tt2000(r),
+        Ok(tt2000) => return UppinaloTt2000Answer { number: 0, tt2000 },
+        Err(r) => return no_tt2000(r),
     }
 }
 

@@ -1,5 +1,5 @@
 -- Tables looked up by numbers, and what a table says of the words in it.
-use Prim.Native.Nat.{ℕ, ◌≤◌, ◌<◌}
+use Prim.Native.Nat.{ℕ, ◌<◌}
 use native.Mathlib.Omega.{arith}
 use mathlib.Core.Path.{◌≡◌, refl, sym, ap, ◌∙◌}
 use mathlib.Core.Bool.{Bool, true, false, ◌&&◌, ◌||◌, cond, or-false}
@@ -7,17 +7,15 @@ use mathlib.Core.List.{List, [], ◌∷◌}
 use mathlib.Core.Logic.{inl, inr}
 use mathlib.Core.Option.{Option, none, some}
 use lib.Dec.{leb, eqb}
-use lib.ListN.{length, get_or}
+use lib.ListN.{length}
 use borrow.Author.Tests.{eqb-true, ne_eqb, leb-true}
 use types.Run.{OneOf}
-use Rattle.grammar.specs.Grammar.{starts}
-use Rattle.grammar.specs.Rules.{span, same}
+use Rattle.grammar.specs.Rules.{same}
 use Rattle.grammar.proofs.Tests.{clash, none_some, and_parts}
-use Rattle.grammar.proofs.Places.{span_in, span_below}
 use Rattle.grammar.proofs.Same.{same_true, same_length_no}
 use Rattle.word_table.specs.Table.{Row, row, among, lookup}
 use Rattle.word_table.specs.Packed.{packed}
-use Rattle.word_table.proofs.Packed.{are_bytes, headed, packed_same}
+use Rattle.word_table.proofs.Packed.{headed, packed_same}
 
 -- a test that every word of a list, and of a table, passes
 abbrev pub all : (List ℕ → Bool) → List (List ℕ) → Bool
@@ -129,28 +127,12 @@ lookup_word f (r ∷ t) w a g e = let h = and_parts (all f r.words) (words f t) 
     go true y z k i = among_word f r.words w k y
     go false y z k i = i z
 
--- ---- a word of bytes, in a table of words whose first byte is not 0: no row has it where its first byte is 0, and else its number tells
-
-module _ {A : Type 0} (t : List (Row A)) (w : List ℕ) (g : words headed t ≡ true) where
-  pub lookup_zero : get_or w 0 0 ≡ 0 → lookup t w ≡ none
-  unfolding starts
-  lookup_zero e = go (lookup t w) refl
-    where
-      not_headed : (v : List ℕ) → get_or v 0 0 ≡ 0 → starts (span 1 255) v ≡ false
-      not_headed [] z = refl
-      not_headed (b ∷ v) z = span_below 1 255 b (omega arith)
-
-      go : (o : Option A) → lookup t w ≡ o → o ≡ none
-      go none x = refl
-      go (some a) x = clash (and_parts _ _ (lookup_word headed t w a g x)).0 (not_headed w e)
-
-  pub lookup_bytes : 1 ≤ length w → (get_or w 0 0 ≡ 0 → ⊥) → ((i : ℕ) → get_or w i 0 < 256) → lookup t w ≡ by_number t (packed w)
-  unfolding starts
-  lookup_bytes l n h = lookup_packed t w g (bytes_headed w l n h)
-    where
-      bytes_headed : (v : List ℕ) → 1 ≤ length v → (get_or v 0 0 ≡ 0 → ⊥) → ((i : ℕ) → get_or v i 0 < 256) → headed v ≡ true
-      bytes_headed [] l n h = absurd (omega arith)
-      bytes_headed (b ∷ v) l n h = rw (span_in 1 255 b (omega (arith, n)) (omega (arith, h 0))) (are_bytes (b ∷ v) h)
+pub lookup_not : {A : Type 0} (f : List ℕ → Bool) (t : List (Row A)) (w : List ℕ) → words f t ≡ true → f w ≡ false → lookup t w ≡ none
+lookup_not {A} f t w g n = go (lookup t w) refl
+  where
+    go : (o : Option A) → lookup t w ≡ o → lookup t w ≡ none
+    go none e = e
+    go (some a) e = clash (lookup_word f t w a g e) n
 
 -- ---- a table in which each row has one word, that of its meaning
 

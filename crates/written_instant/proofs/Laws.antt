@@ -1,4 +1,5 @@
 -- Instants with a zone taken off: sums and differences of integers as natural numbers with their bias of 2^63, and the range.
+use Rattle.std.specs.Prelude.{Ok}
 use mathlib.Core.Path.{◌≡◌, sym, ap, ◌∙◌}
 use mathlib.Core.Bool.{Bool, true, false}
 use Prim.Native.Nat.{ℕ, zero, suc, ◌+◌, ◌-◌, ◌≤◌, ◌<◌}
@@ -12,7 +13,6 @@ use Rattle.signed.proofs.Differences.{by_sign, sub_low, same_diff, sub_plus}
 use Rattle.calendar.specs.declared.Calendar.{Calendar}
 use Rattle.instant.specs.Instant.{in_range, instant_with}
 use Rattle.instant.specs.declared.Fields.{Fields}
-use Rattle.instant.specs.declared.InstantAnswer.{InstantAnswer}
 use Rattle.instant.proofs.Theorems.{placed, shown, fields_of_instant}
 use Rattle.date_text.specs.declared.Zone.{Zone}
 use Rattle.date_text.specs.declared.WrittenDate.{WrittenDate}
@@ -43,7 +43,7 @@ no_zone t false m e = sym (+ℤ_idr t) ∙ ap (λ (n : ℕ). t -ℤ with_sign fa
 -- ---- the range
 
 -- the instant of fields lies in range, and what stands beside them is possible
-pub local_range : (rest : Bool) (c : Calendar) (f : Fields) (t : ℤ) → instant_with rest c f ≡ InstantAnswer.Is t → (rest ≡ true) × (in_range c t ≡ true)
+pub local_range : (rest : Bool) (c : Calendar) (f : Fields) (t : ℤ) → instant_with rest c f ≡ Ok t → (rest ≡ true) × (in_range c t ≡ true)
 local_range rest c f t h =
     let b = (placed rest c f t h).beside in
     (b, (shown c t f (fields_of_instant c f t (ap (λ (r : Bool). instant_with r c f) (sym b) ∙ h))).inside)
@@ -63,9 +63,9 @@ with_year y w =
     }
 
 module _ (c : Calendar) (z : Zone) (t : ℤ) where
-  pub zone_zero : in_range c t ≡ true → zone_length z ≡ 0 → InstantAnswer.Is t ≡ less_zone c z (InstantAnswer.Is t)
+  pub zone_zero : in_range c t ≡ true → zone_length z ≡ 0 → Ok t ≡ less_zone c z (Ok t)
   zone_zero r e =
-      let s : ranged c t ≡ InstantAnswer.Is t = rw r in
+      let s : ranged c t ≡ Ok t = rw r in
       sym s ∙ ap (ranged c) (no_zone t z.behind (zone_length z) e)
 
 -- a zone that is possible is less than a day

@@ -2,6 +2,7 @@
 -- time or the zone is one that no date has, then 12 or 13 exactly where the calendar lacks the date or dropped it, and then 5 exactly
 -- where the instant after the zone lies past the years -9999 to 9999. Any date is given as an instant in those years, or refused with one of
 -- the four.
+use Rattle.std.specs.Prelude.{Result, Ok, Err}
 use Prim.Native.Nat.{ℕ, zero, suc, ◌≤◌}
 use native.Mathlib.Omega.{arith}
 use mathlib.Core.Path.{◌≡◌, refl, sym, ap, ◌∙◌}
@@ -16,10 +17,8 @@ use Rattle.calendar.specs.Calendar.{exists, dropped, in_years}
 use Rattle.calendar.specs.Answers.{is_possible, day_number}
 use Rattle.calendar.specs.declared.Calendar.{Calendar}
 use Rattle.calendar.specs.declared.Date.{Date}
-use Rattle.calendar.specs.declared.DayAnswer.{DayAnswer}
 use Rattle.calendar.proofs.Answering.{DayOutcome, past, impossible, missing, was_dropped, there, day_outcome}
 use Rattle.instant.specs.Instant.{instant_at, in_range, date_in, is_clock, clock_time, with_clock, instant_with}
-use Rattle.instant.specs.declared.InstantAnswer.{InstantAnswer}
 use Rattle.date_text.specs.declared.WrittenDate.{WrittenDate}
 use Rattle.date_text.specs.DateRule.{date_rule}
 use Rattle.signed.specs.Sign.{with_sign}
@@ -53,11 +52,11 @@ module _ (c : Calendar) (w : WrittenDate) where
   abbrev at : ℤ
   at = local_instant c w -ℤ ahead w.time.zone
 
-  pub written_order : w.year ≤ 9999 → written_instant c w ≡ cond (possible_written w) (cond (exists c day) (ranged c at) (InstantAnswer.Refused (cond (dropped c day) Refusal.DroppedDate Refusal.MissingDate))) (InstantAnswer.Refused Refusal.ImpossibleField)
+  pub written_order : w.year ≤ 9999 → written_instant c w ≡ cond (possible_written w) (cond (exists c day) (ranged c at) (Err (cond (dropped c day) Refusal.DroppedDate Refusal.MissingDate))) (Err Refusal.ImpossibleField)
   unfolding written_instant instant_with
   written_order h = go (day_outcome (is_zone w.time.zone && is_clock (local_fields w)) c day)
     where
-      go : {a : DayAnswer} → DayOutcome (is_zone w.time.zone && is_clock (local_fields w)) c day a → less_zone c w.time.zone (with_clock a (local_fields w)) ≡ cond (possible_written w) (cond (exists c day) (ranged c at) (InstantAnswer.Refused (cond (dropped c day) Refusal.DroppedDate Refusal.MissingDate))) (InstantAnswer.Refused Refusal.ImpossibleField)
+      go : {a : Result ℤ Refusal} → DayOutcome (is_zone w.time.zone && is_clock (local_fields w)) c day a → less_zone c w.time.zone (with_clock a (local_fields w)) ≡ cond (possible_written w) (cond (exists c day) (ranged c at) (Err (cond (dropped c day) Refusal.DroppedDate Refusal.MissingDate))) (Err Refusal.ImpossibleField)
       go (past e) = absurd (true≢false (sym (written_in w h) ∙ e))
       go (impossible e p) = rw p
       go (missing e p g d) = rw (p, g, d)
@@ -67,29 +66,29 @@ module _ (c : Calendar) (w : WrittenDate) where
   -- ---- of any date
 
   -- a date as it is written is an instant in the years, or refused with 4, 12, 13 or 5
-  pub written_outcome : (P : InstantAnswer → Type 0) → ((t : ℤ) → in_range c t ≡ true → P (InstantAnswer.Is t)) → P (InstantAnswer.Refused Refusal.ImpossibleField) → P (InstantAnswer.Refused Refusal.MissingDate) → P (InstantAnswer.Refused Refusal.DroppedDate) → P (InstantAnswer.Refused Refusal.OutOfRange) → P (written_instant c w)
+  pub written_outcome : (P : Result ℤ Refusal → Type 0) → ((t : ℤ) → in_range c t ≡ true → P (Ok t)) → P (Err Refusal.ImpossibleField) → P (Err Refusal.MissingDate) → P (Err Refusal.DroppedDate) → P (Err Refusal.OutOfRange) → P (written_instant c w)
   unfolding written_instant instant_with
   written_outcome P given mistyped lacking gone far = go (day_outcome (is_zone w.time.zone && is_clock (local_fields w)) c day)
     where
-      in_range_lem : (u : ℤ) (b : Bool) → in_range c u ≡ b → P (cond b (InstantAnswer.Is u) (InstantAnswer.Refused Refusal.OutOfRange))
+      in_range_lem : (u : ℤ) (b : Bool) → in_range c u ≡ b → P (cond b (Ok u) (Err Refusal.OutOfRange))
       in_range_lem u true e = given u e
       in_range_lem u false e = far
 
-      go : {a : DayAnswer} → DayOutcome (is_zone w.time.zone && is_clock (local_fields w)) c day a → P (less_zone c w.time.zone (with_clock a (local_fields w)))
+      go : {a : Result ℤ Refusal} → DayOutcome (is_zone w.time.zone && is_clock (local_fields w)) c day a → P (less_zone c w.time.zone (with_clock a (local_fields w)))
       go (past e) = far
       go (impossible e p) = mistyped
       go (missing e p g d) = lacking
       go (was_dropped e p g d) = gone
       go (there e p g) = in_range_lem at (in_range c at) refl
 
-  pub written_inside : (t : ℤ) → written_instant c w ≡ InstantAnswer.Is t → in_range c t ≡ true
+  pub written_inside : (t : ℤ) → written_instant c w ≡ Ok t → in_range c t ≡ true
   written_inside t =
-      written_outcome (λ (a : InstantAnswer). a ≡ InstantAnswer.Is t → in_range c t ≡ true)
+      written_outcome (λ (a : Result ℤ Refusal). a ≡ Ok t → in_range c t ≡ true)
       (λ u e h. let k : u ≡ t = cc in ap (in_range c) (sym k) ∙ e)
       (not_given Refusal.ImpossibleField)
       (not_given Refusal.MissingDate)
       (not_given Refusal.DroppedDate)
       (not_given Refusal.OutOfRange)
     where
-      not_given : (r : Refusal) → InstantAnswer.Refused r ≡ InstantAnswer.Is t → in_range c t ≡ true
+      not_given : (r : Refusal) → Err r ≡ Ok t → in_range c t ≡ true
       not_given r h = absurd (let k : ◌≡◌ {A = ℕ} 0 1 = cc in omega arith)

@@ -3,22 +3,21 @@
 
 ghost use Rattle.std.specs.Prelude.{◌≡◌, true};
 ghost use Rattle.instant.specs.Instant.{in_range};
-ghost use Rattle.instant.specs.declared.InstantAnswer.{InstantAnswer};
 ghost use Rattle.written_instant.specs.Instants.{is_zone, ranged, less_zone, written_instant};
 
 use calendar::Calendar;
 use date_text::{WrittenDate, Zone};
-use instant::{Fields, FoundInstant, InstantAnswer};
+use instant::Fields;
 use refusal::Refusal;
 
 // An instant, or that its year lies past -9999 to 9999.
-fn ranged_instant(c: Calendar, t: i64) -> InstantAnswer
+fn ranged_instant(c: Calendar, t: i64) -> Result<i64, Refusal>
     ensures { result ≡ ranged c t }
 {
     if instant::in_range(c, t) {
-        return InstantAnswer::Is(t);
+        return Ok(t);
     }
-    return InstantAnswer::Refused(Refusal::OutOfRange);
+    return Err(Refusal::OutOfRange);
 }
 
 // Whether a zone is possible.
@@ -32,13 +31,13 @@ fn is_zone(z: Zone) -> bool
 }
 
 // A local instant less a zone.
-fn less_zone(c: Calendar, z: Zone, t: i64) -> InstantAnswer
+fn less_zone(c: Calendar, z: Zone, t: i64) -> Result<i64, Refusal>
     requires { (is_zone z ≡ true) × (in_range c t ≡ true) }
-    ensures { result ≡ less_zone c z (InstantAnswer.Is t) }
+    ensures { result ≡ less_zone c z (Ok t) }
 {
     let m = ((z.hours as u64) * 60 + (z.minutes as u64)) * 60000000;
     if m == 0 {
-        return InstantAnswer::Is(t);
+        return Ok(t);
     }
     let k = signed::biased(t);
     if z.behind {
@@ -48,7 +47,7 @@ fn less_zone(c: Calendar, z: Zone, t: i64) -> InstantAnswer
 }
 
 // The instant of a written date: its zone stands beside the local fields.
-pub fn written_instant(c: Calendar, w: WrittenDate) -> InstantAnswer
+pub fn written_instant(c: Calendar, w: WrittenDate) -> Result<i64, Refusal>
     ensures { result ≡ written_instant c w }
 {
     let t = w.time;
@@ -63,9 +62,9 @@ pub fn written_instant(c: Calendar, w: WrittenDate) -> InstantAnswer
         microsecond: t.microsecond,
     };
     match instant::found_instant(c, f, is_zone(z)) {
-        FoundInstant::Is(u) => return less_zone(c, z, u),
-        FoundInstant::Nothing => {
-            return InstantAnswer::Refused(instant::fields_refusal(c, f, is_zone(z)));
+        Some(u) => return less_zone(c, z, u),
+        None => {
+            return Err(instant::fields_refusal(c, f, is_zone(z)));
         }
     }
 }

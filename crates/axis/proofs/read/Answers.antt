@@ -1,4 +1,6 @@
 -- `axis::read` meets its contract.
+use Rattle.refusal.specs.declared.Refusal.{Refusal}
+use Rattle.std.specs.Prelude.{Result}
 use mathlib.Core.Path.{sym, ap, ◌∙◌}
 use lib.IntN.{ℤ}
 use mir.Syntax.{w64}
@@ -12,7 +14,7 @@ use Rattle.axis.specs.Axis.{read_offset, offset_back}
 use borrow.Author.Rules.{rules}
 use Rattle.axis.proofs.read.Goals as goal
 
-abbrev read : Axis → Offset → OffsetReading
+abbrev read : Axis → Offset → Result OffsetReading Refusal
 read a o = with_days_back (read_offset a o) (offset_back a o)
 
 pub returns-in-Whole : goal.returns-in-Whole

@@ -1,4 +1,5 @@
 -- `calendar::day_of_date` meets its contract.
+use Rattle.std.specs.Prelude.{Ok, Err}
 use mathlib.Core.Path.{ap, ◌∙◌}
 use mathlib.Core.Bool.{true}
 use lib.IntN.{ℤ}
@@ -7,22 +8,21 @@ use mir.Val.{SFits}
 use mir.ValLaws.{to_z-of_z}
 use Rattle.signed.proofs.Tests.{and_parts}
 use Rattle.calendar.specs.Calendar.{in_years, exists}
-use Rattle.calendar.specs.declared.DayAnswer.{DayAnswer}
 use Rattle.calendar.proofs.Answering.{day_refused, date_there}
 use borrow.Author.Rules.{rules}
 use Rattle.calendar.proofs.day_of_date.Goals as goal
 
-pub returns-in-Is : goal.returns-in-Is
-returns-in-Is c =
+pub returns-in-Some : goal.returns-in-Some
+returns-in-Some c =
     let a = c.args in
-    let z : ℤ = c.in-Is.n in
-    let w = c.in-Is.ensures in
+    let z : ℤ = c.in-Some.n in
+    let w = c.in-Some.ensures in
     let b = and_parts (in_years a.x.year) (exists a.c a.x) w.0 in
     let f : SFits w64 z = search rules in
-    ap DayAnswer.Is (to_z-of_z w64 z f) ∙ date_there a.c a.x z b.0 b.1 w.1
+    ap Ok (to_z-of_z w64 z f) ∙ date_there a.c a.x z b.0 b.1 w.1
 
-pub returns-in-Nothing : goal.returns-in-Nothing
-returns-in-Nothing c =
+pub returns-in-None : goal.returns-in-None
+returns-in-None c =
     let a = c.args in
-    let w = c.in-Nothing.ensures in
-    ap DayAnswer.Refused c.refusal_with.ensures ∙ day_refused true a.c a.x w
+    let w = c.in-None.ensures in
+    ap Err c.refusal_with.ensures ∙ day_refused true a.c a.x w

@@ -1,5 +1,8 @@
 -- `calendar::found_day` meets its contract.
-use mathlib.Core.Path.{◌≡◌, sym, ap, ◌∙◌}
+use Rattle.std.specs.Prelude.{None}
+use Rattle.std.proofs.lemmas.Grind.{common_steps}
+use native.Mathlib.Omega.{arith}
+use mathlib.Core.Path.{◌≡◌, sym, ap, ◌∙◌, subst}
 use mathlib.Core.Bool.{Bool}
 use mir.Syntax.{w64}
 use mir.Val.{SFits}
@@ -7,6 +10,7 @@ use Rattle.signed.specs.Bias.{unbiased}
 use Rattle.signed.proofs.Tests.{right_out}
 use Rattle.signed.proofs.Machine.{crossed}
 use Rattle.calendar.specs.Calendar.{in_years, exists}
+use Rattle.calendar.specs.Closed.{Found}
 use Rattle.calendar.proofs.Existing.{not_there}
 use Rattle.calendar.proofs.Counted.{no_count}
 use borrow.Author.Rules.{rules}
@@ -23,10 +27,11 @@ year_is y =
 in_years_is : (y : After-in_years) {t : Bool} → y.in_years.result ≡ t → in_years y.args.x.year ≡ t
 in_years_is y h = ap in_years (sym (year_is y)) ∙ (sym y.in_years.ensures ∙ h)
 
-pub returns-in-Missing : goal.returns-in-Missing
-returns-in-Missing c =
+pub returns-in_err-y : goal.returns-in_err-y
+returns-in_err-y c =
     let a = c.args in
-    let y = (goal.at.returns-in-Missing c).After-in_years in
-    right_out (in_years a.x.year) (exists a.c a.x)
+    let y = (goal.at.returns-in_err-y c).After-in_years in
+    let none : c.from_residual.result ≡ None = grind (arith, common_steps) in
+    subst (Found a.c a.x) (sym none) (right_out (in_years a.x.year) (exists a.c a.x)
     (not_there a.c a.x
-    (no_count a.c a.x c.biased-k.result (year_is y) (in_years_is y c.if-not-in_years.false) c.has_year_zero.result c.has_year_zero.ensures c.year_count.result c.year_count.ensures c.in-Missing.is))
+    (no_count a.c a.x c.biased-k.result (year_is y) (in_years_is y c.if-not-in_years.false) c.has_year_zero.result c.has_year_zero.ensures c.year_count.result c.year_count.ensures c.in_err-y.was)))

@@ -47,30 +47,30 @@ possible f =
     let x = f.args.x in
     both f.args.rest (is_possible x.month x.day) f.if-not-rest.false (sym f.is_possible.ensures ∙ f.if-not-is_possible.false)
 
-pub returns-in-Missing : goal.returns-in-Missing
-returns-in-Missing c =
+pub returns-in-None : goal.returns-in-None
+returns-in-None c =
     let a = c.args in
-    let y = (goal.at.returns-in-Missing c).After-in_years in
+    let y = (goal.at.returns-in-None c).After-in_years in
     let i = in_years_is y c.if-not-in_years.false in
     let none_dropped : dropped a.c a.x ≡ false =
     to_false (dropped a.c a.x)
-    (λ d. no_count a.c a.x c.biased-k.result (year_is y) i c.has_year_zero.result c.has_year_zero.ensures c.year_count.result c.year_count.ensures c.in-Missing.is (valid_dropped a.c a.x d)) in
-    refused_missing a.rest a.c a.x i (possible (goal.at.returns-in-Missing c).Else-not-is_possible) none_dropped
+    (λ d. no_count a.c a.x c.biased-k.result (year_is y) i c.has_year_zero.result c.has_year_zero.ensures c.year_count.result c.year_count.ensures c.in-None.is (valid_dropped a.c a.x d)) in
+    refused_missing a.rest a.c a.x i (possible (goal.at.returns-in-None c).Else-not-is_possible) none_dropped
 
-pub returns-then-is_dropped : goal.returns-then-is_dropped
-returns-then-is_dropped c =
+pub returns-in-Some : goal.returns-in-Some
+returns-in-Some c =
     let a = c.args in
-    let y = (goal.at.returns-then-is_dropped c).After-in_years in
+    let y = (goal.at.returns-in-Some c).After-in_years in
     let i = in_years_is y c.if-not-in_years.false in
-    let written = date_is a.c a.x c.biased-k.result (year_is y) i c.has_year_zero.result c.has_year_zero.ensures c.year_count.result c.year_count.ensures c.in-Is.y c.in-Is.is in
+    let written = date_is a.c a.x c.biased-k.result (year_is y) i c.has_year_zero.result c.has_year_zero.ensures c.year_count.result c.year_count.ensures c.in-Some.y c.in-Some.is in
     let told : dropped a.c a.x ≡ true = ap (dropped a.c) (sym written) ∙ (sym c.is_dropped.ensures ∙ c.if-is_dropped.true) in
-    refused_dropped a.rest a.c a.x i (possible (goal.at.returns-then-is_dropped c).Else-not-is_possible) told
+    refused_dropped a.rest a.c a.x i (possible (goal.at.returns-in-Some c).Else-not-is_possible) told
 
-pub returns-in-Is : goal.returns-in-Is
-returns-in-Is c =
+pub returns-in-Some-2 : goal.returns-in-Some-2
+returns-in-Some-2 c =
     let a = c.args in
-    let y = (goal.at.returns-in-Is c).After-in_years in
+    let y = (goal.at.returns-in-Some-2 c).After-in_years in
     let i = in_years_is y c.if-not-in_years.false in
-    let written = date_is a.c a.x c.biased-k.result (year_is y) i c.has_year_zero.result c.has_year_zero.ensures c.year_count.result c.year_count.ensures c.in-Is.y c.in-Is.is in
+    let written = date_is a.c a.x c.biased-k.result (year_is y) i c.has_year_zero.result c.has_year_zero.ensures c.year_count.result c.year_count.ensures c.in-Some.y c.in-Some.is in
     let told : dropped a.c a.x ≡ false = ap (dropped a.c) (sym written) ∙ (sym c.is_dropped.ensures ∙ c.if-is_dropped.false) in
-    refused_missing a.rest a.c a.x i (possible (goal.at.returns-in-Is c).Else-not-is_possible) told
+    refused_missing a.rest a.c a.x i (possible (goal.at.returns-in-Some-2 c).Else-not-is_possible) told

@@ -1,4 +1,5 @@
 -- `calendar_axis::instant_after` meets its contract: the day that is reached, and the time of day.
+use Rattle.std.specs.Prelude.{Result, Ok}
 use mathlib.Core.Path.{◌≡◌, sym, ap, ◌∙◌, subst}
 use Prim.Native.Nat.{◌<◌}
 use mathlib.Core.Bool.{true}
@@ -9,17 +10,16 @@ use mir.Val.{to_z, of_z}
 use mir.ValLaws.{to_z-of_z}
 use Rattle.calendar.specs.Calendar.{exists, in_years}
 use Rattle.calendar.specs.declared.Date.{Date}
-use Rattle.calendar.specs.declared.DayAnswer.{DayAnswer}
 use Rattle.calendar.proofs.Answering.{date_there}
 use Rattle.instant.specs.Instant.{instant_at}
 use Rattle.instant.proofs.Clock.{day_small}
 use Rattle.step.specs.Steps.{date_after}
 use Rattle.step.proofs.Theorems.{steps_exist}
-use Rattle.axis_types.specs.declared.Reading.{Reading}
 use Rattle.calendar_axis.specs.Steps.{on_day}
 use Rattle.calendar_axis.proofs.Demands.{day_inside}
 use Rattle.calendar_axis.proofs.instant_after.Goals as goal
 use Rattle.calendar_axis.proofs.instant_after.Goals.{After-day_after, Start}
+use Rattle.refusal.specs.declared.Refusal.{Refusal}
 
 module _ (s : Start) where
   abbrev moved : ℤ → Date
@@ -53,5 +53,5 @@ returns c =
     let a = c.args in
     let s = (goal.at.returns c).Start in
     let d = (goal.at.returns c).After-day_after in
-    ap (λ (t : ℤ). Reading.At t true) (to_z-of_z w64 c.instant_at.result (record { sfits = c.instant_at.type_inv }) ∙ (c.instant_at.ensures ∙ ap (λ (z : ℤ). instant_at z a.s.time) (day_is d)))
-    ∙ ap (λ (x : DayAnswer). on_day x a.s.time) (date_there a.c (moved s a.n) c.day_after.result (inside s) (there s) (c.day_after.ensures ∙ asked s))
+    ap (λ (t : ℤ). Ok (t, true)) (to_z-of_z w64 c.instant_at.result (record { sfits = c.instant_at.type_inv }) ∙ (c.instant_at.ensures ∙ ap (λ (z : ℤ). instant_at z a.s.time) (day_is d)))
+    ∙ ap (λ (x : Result ℤ Refusal). on_day x a.s.time) (date_there a.c (moved s a.n) c.day_after.result (inside s) (there s) (c.day_after.ensures ∙ asked s))

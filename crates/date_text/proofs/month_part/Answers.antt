@@ -1,44 +1,26 @@
 -- `date_text::month_part` meets its contract: each `return` is a step of the reader.
-use native.Mathlib.Omega.{arith}
-use mathlib.Core.Path.{sym, ap, ◌∙◌, ◌≡◌}
-use lib.ListN.{drop}
-use Rattle.grammar.specs.Answers.{number_in}
-use Rattle.grammar.specs.Reader.{paired, scan, found}
+use Rattle.std.proofs.Common.{arith, sym, ◌∙◌}
 use Rattle.grammar.proofs.Places.{starts_lt}
 use Rattle.grammar.proofs.Steps.{part_absent, part_no, part_is}
-use Rattle.date_text.specs.Answers.{day_in}
-use Rattle.date_text.specs.DateRule.{month_part}
-use Rattle.date_text.specs.declared.DayAt.{DayAt}
-use Rattle.date_text.specs.declared.Time.{Time}
 use Rattle.date_text.proofs.month_part.Goals as goal
-use Rattle.date_text.proofs.month_part.Goals.{After-day_part}
 
 pub overflow_add-at : goal.overflow_add-at
-overflow_add-at c = let a = c.args in let h = starts_lt _ a.s.now a.at (sym c.next_in.ensures ∙ c.if-next_in.true) in omega arith
+overflow_add-at c = let a = c.args in let h = starts_lt _ a.s.now a.at (sym c.starts_in.ensures ∙ c.if-starts_in.true) in omega arith
 
-pub returns-in_default : goal.returns-in_default
-returns-in_default c =
+pub returns-in_err-month : goal.returns-in_err-month
+returns-in_err-month c =
     let a = c.args in
-    part_no _ _ _ _ a.s.now a.at (sym c.next_in.ensures ∙ c.if-next_in.true) (c.number_at.ensures ∙ ap (number_in _) c.in_default.is)
+    rw c.from_residual.ensures (part_no _ _ _ _ a.s.now a.at (sym c.starts_in.ensures ∙ c.if-starts_in.true) c.in_err-month.ensures)
 
--- the part, by what is found after the number
-part : (f : After-day_part) (o : DayAt) → f.day_part.result ≡ o
-    → let a = f.args in
-    scan month_part (drop a.at a.s.now) ≡ paired f.in-Found.month (day_in a.s.now o)
-part f o e =
-    let a = f.args in
-    part_is _ _ _ _ a.s.now a.at (sym f.next_in.ensures ∙ f.if-next_in.true) _ _ _
-    (f.number_at.ensures ∙ ap (number_in _) f.in-Found.is)
-    (f.day_part.ensures ∙ ap (day_in _) e)
+pub returns-in_err-day : goal.returns-in_err-day
+returns-in_err-day c =
+    let a = c.args in
+    rw c.from_residual-in_err-day.ensures (part_is _ _ _ _ a.s.now a.at (sym c.starts_in.ensures ∙ c.if-starts_in.true) _ _ _ c.in_ok-month.ensures c.in_err-day.ensures)
 
-pub returns-in_default-day_part : goal.returns-in_default-day_part
-returns-in_default-day_part c = part (goal.at.returns-in_default-day_part c).After-day_part _ c.in_default-day_part.is
-
-pub returns-then-next_in : goal.returns-then-next_in
-returns-then-next_in c = part (goal.at.returns-then-next_in c).After-day_part _ c.in-Found-day_part.is
+pub returns-then-starts_in : goal.returns-then-starts_in
+returns-then-starts_in c =
+    let a = c.args in
+    part_is _ _ _ _ a.s.now a.at (sym c.starts_in.ensures ∙ c.if-starts_in.true) _ _ _ c.in_ok-month.ensures c.in_ok-day.ensures
 
 pub returns : goal.returns
-returns c =
-    let a = c.args in
-    part_absent _ _ _ (drop a.at a.s.now) (sym c.next_in.ensures ∙ c.if-next_in.false)
-    ∙ ap (λ (t : Time). found (1, (1, t)) (drop a.at a.s.now)) (sym c.midnight_utc.ensures)
+returns c = part_absent _ _ _ _ (sym c.starts_in.ensures ∙ c.if-starts_in.false)

@@ -1,39 +1,26 @@
 -- `date_text::second_part` meets its contract: each `return` is a step of the reader.
-use native.Mathlib.Omega.{arith}
-use mathlib.Core.Path.{sym, ap, ◌∙◌, ◌≡◌}
-use lib.ListN.{drop}
-use Rattle.grammar.specs.Answers.{number_in}
-use Rattle.grammar.specs.Reader.{paired, scan}
-use Rattle.grammar.specs.declared.NumberAt.{NumberAt}
+use Rattle.std.proofs.Common.{arith, sym, ◌∙◌}
 use Rattle.grammar.proofs.Places.{starts_lt}
 use Rattle.grammar.proofs.Steps.{part_absent, part_no, part_is}
-use Rattle.date_text.specs.DateRule.{second_part}
 use Rattle.date_text.proofs.second_part.Goals as goal
-use Rattle.date_text.proofs.second_part.Goals.{After-fraction_part}
 
 pub overflow_add-at : goal.overflow_add-at
-overflow_add-at c = let a = c.args in let h = starts_lt _ a.s.now a.at (sym c.next_in.ensures ∙ c.if-next_in.true) in omega arith
+overflow_add-at c = let a = c.args in let h = starts_lt _ a.s.now a.at (sym c.starts_in.ensures ∙ c.if-starts_in.true) in omega arith
 
-pub returns-in_default : goal.returns-in_default
-returns-in_default c =
+pub returns-in_err-second : goal.returns-in_err-second
+returns-in_err-second c =
     let a = c.args in
-    part_no _ _ _ _ a.s.now a.at (sym c.next_in.ensures ∙ c.if-next_in.true) (c.number_at.ensures ∙ ap (number_in _) c.in_default.is)
+    rw c.from_residual.ensures (part_no _ _ _ _ a.s.now a.at (sym c.starts_in.ensures ∙ c.if-starts_in.true) c.in_err-second.ensures)
 
--- the part, by what is found after the seconds
-part : (f : After-fraction_part) (o : NumberAt) → f.fraction_part.result ≡ o
-    → let a = f.args in
-    scan second_part (drop a.at a.s.now) ≡ paired f.in-Found.second (number_in a.s.now o)
-part f o e =
-    let a = f.args in
-    part_is _ _ _ _ a.s.now a.at (sym f.next_in.ensures ∙ f.if-next_in.true) _ _ _
-    (f.number_at.ensures ∙ ap (number_in _) f.in-Found.is)
-    (f.fraction_part.ensures ∙ ap (number_in _) e)
+pub returns-in_err-microsecond : goal.returns-in_err-microsecond
+returns-in_err-microsecond c =
+    let a = c.args in
+    rw c.from_residual-in_err-microsecond.ensures (part_is _ _ _ _ a.s.now a.at (sym c.starts_in.ensures ∙ c.if-starts_in.true) _ _ _ c.in_ok-second.ensures c.in_err-microsecond.ensures)
 
-pub returns-in_default-fraction_part : goal.returns-in_default-fraction_part
-returns-in_default-fraction_part c = part (goal.at.returns-in_default-fraction_part c).After-fraction_part _ c.in_default-fraction_part.is
-
-pub returns-then-next_in : goal.returns-then-next_in
-returns-then-next_in c = part (goal.at.returns-then-next_in c).After-fraction_part _ c.in-Found-fraction_part.is
+pub returns-then-starts_in : goal.returns-then-starts_in
+returns-then-starts_in c =
+    let a = c.args in
+    part_is _ _ _ _ a.s.now a.at (sym c.starts_in.ensures ∙ c.if-starts_in.true) _ _ _ c.in_ok-second.ensures c.in_ok-microsecond.ensures
 
 pub returns : goal.returns
-returns c = part_absent _ _ _ _ (sym c.next_in.ensures ∙ c.if-next_in.false)
+returns c = part_absent _ _ _ _ (sym c.starts_in.ensures ∙ c.if-starts_in.false)

@@ -20,8 +20,8 @@ returns c =
     (λ i p. c.exchanged.ensures i (subst (λ (u : ℕ). Place r.from r.below r.above u i) (sym e) p))
     c.requires.read
 
-pub exchanged-requires-clause-known : goal.exchanged-requires-clause-known
-exchanged-requires-clause-known c =
+pub exchanged-requires : goal.exchanged-requires
+exchanged-requires c =
     let a = c.args in
     let e = ap biased (to_z-of_z w64 a.n c.ranges.n) in
     subst (IsMultiple a.ratio) (sym e) (read_multiple a.unit a.ratio c.requires.ratio a.n c.ranges.n c.requires.read)

@@ -20,8 +20,8 @@ returns c =
     (λ i p. c.exchanged.ensures i (subst (λ (u : ℕ). Place r.from r.below r.above u i) (sym e) p))
     c.requires.written
 
-pub exchanged-requires-clause-known : goal.exchanged-requires-clause-known
-exchanged-requires-clause-known c =
+pub exchanged-requires : goal.exchanged-requires
+exchanged-requires c =
     let a = c.args in
     let e = ap biased (to_z-of_z w64 a.t c.ranges.t) in
     subst (IsMultiple a.ratio) (sym e) (written_multiple a.unit a.ratio c.requires.ratio a.t c.ranges.t c.requires.written)

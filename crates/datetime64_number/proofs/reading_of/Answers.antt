@@ -2,5 +2,5 @@
 use Rattle.datetime64_number.proofs.Years.{epoch_in}
 use Rattle.datetime64_number.proofs.reading_of.Goals as goal
 
-pub start_of-requires : goal.start_of-requires
-start_of-requires c = epoch_in
+pub start_of-start-requires : goal.start_of-start-requires
+start_of-start-requires c = epoch_in

@@ -1,4 +1,5 @@
 -- `fixed_axis::nearest_time` meets its contract. proofs/Doubles.antt goes from the displacement to the definition.
+use Rattle.std.specs.Prelude.{Ok}
 use mathlib.Core.Path.{◌≡◌, sym, ap, ◌∙◌, subst}
 use Prim.Native.Nat.{ℕ, ◌<◌, ◌^◌}
 use native.Mathlib.Omega.{arith}
@@ -7,8 +8,7 @@ use lib.Signed.{mag}
 use mir.Syntax.{w64}
 use mir.Val.{SFits}
 use borrow.Author.Rules.{rules}
-use Rattle.axis_types.specs.Reading.{is_read}
-use Rattle.axis_types.specs.declared.Reading.{Reading}
+use Rattle.axis_types.specs.Reading.{is_read, Reading}
 use Rattle.instant.proofs.Range.{small}
 use Rattle.double.specs.declared.Displacement.{Displacement}
 use Rattle.double.specs.Displacement.{IsSmall, DisplacementOf}
@@ -19,10 +19,10 @@ use Rattle.fixed_axis.proofs.Doubles as Doubles
 use Rattle.fixed_axis.proofs.nearest_time.Goals as goal
 use Rattle.fixed_axis.proofs.nearest_time.Goals.{After-small_displacement-d}
 
-pub small_displacement-d-requires-clause-small : goal.small_displacement-d-requires-clause-small
-small_displacement-d-requires-clause-small c =
+pub small_displacement-d-requires : goal.small_displacement-d-requires
+small_displacement-d-requires c =
     let a = c.args in
-    subst (λ (P : ℕ). IsSmall P a.x) (sym c.requires.scaled.0) (Doubles.small a.c a.p a.reference c.requires.begun a.x c.requires.read)
+    subst (λ (P : ℕ). IsSmall P a.x) (sym c.requires.scaled) (Doubles.small a.c a.p a.reference c.requires.begun a.x c.requires.read)
 
 module _ (c : After-small_displacement-d) where
   abbrev d : Displacement
@@ -35,7 +35,7 @@ module _ (c : After-small_displacement-d) where
   near = omega (arith, small c.args.c c.args.reference c.requires.begun)
 
   reading : reading_at c.args.c (c.args.reference +ℤ d.count) d.exact ≡ read_double c.args.c c.args.p c.args.reference c.args.x
-  reading = Doubles.displaced c.args.c c.args.p c.args.reference d c.args.x (subst (λ (P : ℕ). DisplacementOf d P c.args.x) c.requires.scaled.0 c.small_displacement-d.ensures.0)
+  reading = Doubles.displaced c.args.c c.args.p c.args.reference d c.args.x (subst (λ (P : ℕ). DisplacementOf d P c.args.x) c.requires.scaled c.small_displacement-d.ensures.0)
 
 pub overflow_add-result : goal.overflow_add-result
 overflow_add-result c =
@@ -45,6 +45,7 @@ overflow_add-result c =
 pub returns : goal.returns
 returns c =
     let s = (goal.at.returns c).After-small_displacement-d in
+    let at : ℤ → Reading = λ z. Ok (z, (d s).exact) in
     sym (reading s)
     ∙ (read_is s.args.c (s.args.reference +ℤ (d s).count) (d s).exact (ap is_read (reading s) ∙ s.requires.read)
-    ∙ ap (λ (z : ℤ). Reading.At z (d s).exact) (sym (sum_is s.args.reference (d s).count s.ranges.reference (fits s) (near s) s.small_displacement-d.ensures.1)))
+    ∙ ap at (sym (sum_is s.args.reference (d s).count s.ranges.reference (fits s) (near s) s.small_displacement-d.ensures.1)))

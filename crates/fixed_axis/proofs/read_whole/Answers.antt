@@ -38,10 +38,10 @@ returns-then-reaches c =
     ∙ (ap (λ (z : ℤ). reading_at a.args.c z true) (to_z-of_z w64 t.result (record { sfits = t.type_inv }) ∙ t.ensures)
     ∙ (λ i. reading_at a.args.c (time_after a.args.p (to_z-of_z w64 a.args.reference a.ranges.reference i) (to_z-of_z w64 a.args.n a.ranges.n i)) true))
 
-pub returns : goal.returns
+pub returns-else-reaches : goal.returns-else-reaches
 unfolding read_whole
-returns c =
+returns-else-reaches c =
     let a = c in
     let P = length_of a.args.p in
     settled a.args.c (time_after a.args.p a.args.reference a.args.n) true
-    (too_far a.args.c a.args.reference (a.args.n *ℤ pos P) a.requires (le_trans (said (goal.at.returns c).After-reaches c.if-reaches.false) (le_of_eq (sym (times_size a.args.n P)))))
+    (too_far a.args.c a.args.reference (a.args.n *ℤ pos P) a.requires (le_trans (said (goal.at.returns-else-reaches c).After-reaches c.if-reaches.false) (le_of_eq (sym (times_size a.args.n P)))))

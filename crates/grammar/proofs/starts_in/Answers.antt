@@ -1,26 +1,15 @@
--- `grammar::starts_in` meets its contract: the goals; Invariants.antt has the loop's invariant.
-use native.Mathlib.Omega.{arith}
-use mathlib.Core.Path.{sym, ◌∙◌}
-use lib.ListN.{get_or}
-use Rattle.grammar.proofs.Places.{starts_past, starts_at, set_hit, set_next, set_end}
+-- `grammar::starts_in` meets its contract: the byte at the place is looked for in the set.
+use Rattle.std.proofs.Common.{rules, sym, ◌∙◌, slice_index_or}
+use Rattle.grammar.specs.Rules.{any_of}
+use Rattle.grammar.proofs.Places.{starts_past, starts_at, set_any}
 use Rattle.grammar.proofs.starts_in.Goals as goal
 
-pub returns-then-s-at : goal.returns-then-s-at
-returns-then-s-at c = let a = c.args in sym (starts_past _ a.s.now a.at c.if-s-at.true)
-
-pub returns-then-set-i : goal.returns-then-set-i
-returns-then-set-i c =
+pub returns-then-at-s : goal.returns-then-at-s
+returns-then-at-s c =
     let a = c.args in
-    sym (starts_at _ a.s.now a.at c.if-s-at.false ∙ c.loop-i.invariant.1
-    ∙ set_hit a.set.now c.loop-i.i (get_or a.s.now a.at 0) (omega arith) c.if-set-i.true)
+    c.contains.ensures.value ∙ sym (starts_at _ a.s.now a.at c.if-at-s.true ∙ set_any a.set.now (slice_index_or a.s.now a.at 0))
 
-pub loop-i-preserved : goal.loop-i-preserved
-loop-i-preserved c =
+pub returns-else-at-s : goal.returns-else-at-s
+returns-else-at-s c =
     let a = c.args in
-    (omega arith, c.loop-i.invariant.1 ∙ set_next a.set.now c.loop-i.i (get_or a.s.now a.at 0) (omega arith) c.if-set-i.false)
-
-pub returns : goal.returns
-returns c =
-    let a = c.args in
-    sym (starts_at _ a.s.now a.at c.if-s-at.false ∙ c.loop-i.invariant.1
-    ∙ set_end a.set.now c.loop-i.i (get_or a.s.now a.at 0) (omega arith))
+    rw (starts_past (any_of a.set.now) a.s.now a.at c.if-at-s.false) (search rules)

@@ -1,10 +1,10 @@
 -- `iso_form::write_form` meets its contract: room that is too short is not touched, and the copy leaves the text and the room beyond it.
+use Rattle.std.specs.Prelude.{Ok}
 use native.Mathlib.Omega.{arith}
 use Prim.Native.Nat.{◌-◌, ◌≤◌}
 use mathlib.Core.Path.{◌≡◌, refl, sym, ap, ◌∙◌}
 use lib.ListN.{length, take, drop}
 use lib.Seq.{take-length, length-take-le}
-use Rattle.iso_form.specs.declared.LengthAnswer.{LengthAnswer}
 use Rattle.iso_form.specs.Form.{iso_text}
 use Rattle.iso_form.proofs.Laws.{iso_length_lem, short_answer, short_over, whole_answer, part_copied}
 use Rattle.iso_form.proofs.write_form.Goals as goal
@@ -27,7 +27,7 @@ returns-then-room-n-clause-room_after c =
 pub returns-clause-value : goal.returns-clause-value
 returns-clause-value c =
     let s = sized (goal.at.returns-clause-value c).After-start-a in
-    ap LengthAnswer.Is (sym s) ∙ sym (whole_answer (iso_text c.args.w) c.args.room.now (omega arith))
+    ap Ok (sym s) ∙ sym (whole_answer (iso_text c.args.w) c.args.room.now (omega arith))
 
 pub returns-clause-room_after : goal.returns-clause-room_after
 returns-clause-room_after c =

@@ -1,9 +1,6 @@
--- The gathered bytes lie within the line, and the buffer has room for an answer.
-use Rattle.std.proofs.Common.{◌≡◌, ◌-◌, ◌≤◌, length}
+-- `listing::feed`: each turn of the loop takes a line and its newline from what is left of the bytes.
+use Rattle.std.proofs.Common.{length}
 use Rattle.listing.proofs.feed.Given as goal
 
-abbrev pub invariant-loop-i : goal.invariant-loop-i
-invariant-loop-i g l = (length l.line ≡ length l.initial.line) × (length l.out ≡ length l.initial.out) × (l.gathered ≤ length l.initial.line) × (l.i ≤ length l.chunk)
-
-abbrev pub decreases-loop-i : goal.decreases-loop-i
-decreases-loop-i g l = length l.chunk - l.i
+abbrev pub decreases-loop-end : goal.decreases-loop-end
+decreases-loop-end g l = length l.rest

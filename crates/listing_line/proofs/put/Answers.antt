@@ -1,6 +1,6 @@
 -- `listing_line::put` meets its contract.
+use Rattle.std.specs.Prelude.{Ok}
 use mathlib.Core.Path.{sym, ap, ◌∙◌}
-use Rattle.iso_form.specs.declared.LengthAnswer.{LengthAnswer}
 use Rattle.iso_form.proofs.Laws.{short_answer, short_over, whole_answer, whole_over}
 use Rattle.listing_line.proofs.put.Goals as goal
 
@@ -12,6 +12,6 @@ returns-then-room-text c = record {
 
 pub returns : goal.returns
 returns c = record {
-  value = ap LengthAnswer.Is c.copy-n.ensures.count ∙ sym (whole_answer c.args.text.now c.args.room.now c.if-room-text.false);
+  value = ap Ok c.copy-n.ensures.count ∙ sym (whole_answer c.args.text.now c.args.room.now c.if-room-text.false);
   room_after = c.copy-n.ensures.copied ∙ sym (whole_over c.args.text.now c.args.room.now c.if-room-text.false);
 }

@@ -1,16 +1,12 @@
 -- `listing_line::put_shown` meets its contract.
+use Rattle.std.specs.Prelude.{Ok}
 use Prim.Native.Nat.{ℕ, ◌-◌, ◌≤◌}
 use native.Mathlib.Omega.{arith}
 use mathlib.Core.Path.{◌≡◌, ap, ◌∙◌}
 use mathlib.Core.List.{List, ◌++◌, append_assoc}
-use lib.IntN.{ℤ}
 use lib.ListN.{length, replicate}
-use mir.Syntax.{w64}
-use mir.Val.{to_z, of_z}
-use mir.ValLaws.{to_z-of_z}
 use Rattle.iso_form.specs.Form.{length_answer, over}
 use Rattle.iso_text.specs.Iso.{text_of}
-use Rattle.listing_line.specs.declared.LineAnswer.{LineAnswer}
 use Rattle.listing_line.specs.Line.{fields_in, rounded_text, answer_text, newline}
 use Rattle.listing_line.proofs.Instants.{shown_length}
 use Rattle.listing_line.proofs.Rooms.{taken, reaches}
@@ -20,23 +16,19 @@ use Rattle.listing_line.proofs.put_shown.Goals.{After-put_instant-n}
 -- the text, and that it was made
 module _ (p : After-put_instant-n) where
   abbrev text : List ℕ
-  text = answer_text (LineAnswer.Shows p.args.c p.args.t p.args.exact) ++ newline
+  text = answer_text (Ok p.args.shown) ++ newline
 
   abbrev made : List ℕ
   made = p.put_instant-n.new.room
 
-  -- as the machine reads the instant
-  same : answer_text (LineAnswer.Shows p.args.c (to_z w64 (of_z w64 p.args.t)) p.args.exact) ++ newline ≡ text
-  same = ap (λ (z : ℤ). answer_text (LineAnswer.Shows p.args.c z p.args.exact) ++ newline) (to_z-of_z w64 p.args.t p.ranges.t)
-
   count : p.put_instant-n.result ≡ length text
-  count = p.put_instant-n.ensures.value ∙ ap length same
+  count = p.put_instant-n.ensures.value
 
   short : length text ≤ 37
-  short = omega (arith, ap length (append_assoc (text_of (fields_in p.args.c p.args.t)) (rounded_text p.args.exact) newline), shown_length p.args.c p.args.t p.args.exact)
+  short = omega (arith, ap length (append_assoc (text_of (fields_in p.args.shown.calendar p.args.shown.instant)) (rounded_text p.args.shown.exact) newline), shown_length p.args.shown.calendar p.args.shown.instant p.args.shown.exact)
 
   made_is : made ≡ over text (replicate 37 0)
-  made_is = p.put_instant-n.ensures.room_after ∙ ap (λ (t : List ℕ). over t (replicate 37 0)) same
+  made_is = p.put_instant-n.ensures.room_after
 
 pub slice_bounds-put-end : goal.slice_bounds-put-end
 slice_bounds-put-end c =

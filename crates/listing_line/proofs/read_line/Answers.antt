@@ -4,7 +4,8 @@ use Prim.Native.Nat.{◌+◌}
 use lib.ListN.{length}
 use Rattle.grammar.specs.Reader.{read}
 use Rattle.offset_text.specs.OffsetRule.{offset}
-use Rattle.offset_text.specs.declared.OffsetText.{OffsetText}
+use Rattle.axis_types.specs.declared.Offset.{Offset}
+use Rattle.std.specs.Prelude.{Option}
 use Rattle.offset_text.proofs.Texts.{offset_value, offset_back_lem}
 use Rattle.listing_line.specs.Line.{with_offset, line_answer}
 use Rattle.listing_line.specs.Closed.{part, BarsOf, Places}
@@ -21,14 +22,14 @@ returns-in_default c =
     sym (subst (BarsOf s) c.in_default.is c.bars_of.ensures) ∙ short_line s c.if-line-gt255.false
 
 -- the answer, by what the text of the offset is
-settled : (d : After-read_offset) (o : OffsetText) → d.read_offset.result ≡ o
-    → let s = d.args.line.now in let a = d.in-Two.a in let b = d.in-Two.b in
+settled : (d : After-read_offset) (o : Option Offset) → d.read_offset.result ≡ o
+    → let s = d.args.line.now in let a = d.in-Some.a in let b = d.in-Some.b in
     with_offset (part 0 a s) (part (a + 1) b s) (offset_value o) ≡ line_answer s
 settled d o e =
     let s = d.args.line.now in
-    let a = d.in-Two.a in
-    let b = d.in-Two.b in
-    let p : Places s a b = subst (BarsOf s) d.in-Two.is d.bars_of.ensures in
+    let a = d.in-Some.a in
+    let b = d.in-Some.b in
+    let p : Places s a b = subst (BarsOf s) d.in-Some.is d.bars_of.ensures in
     ap (with_offset (part 0 a s) (part (a + 1) b s)) (sym (offset_back_lem (read offset (part (b + 1) (length s) s)) d.read_offset.result d.read_offset.ensures ∙ ap offset_value e))
     ∙ parted_line s a b d.if-line-gt255.false p
 
@@ -36,4 +37,4 @@ pub returns-in_default-read_offset : goal.returns-in_default-read_offset
 returns-in_default-read_offset c = settled (goal.at.returns-in_default-read_offset c).After-read_offset _ c.in_default-read_offset.is
 
 pub returns : goal.returns
-returns c = c.read_parts.ensures ∙ settled (goal.at.returns c).After-read_offset _ c.in-Read.is
+returns c = c.read_parts.ensures ∙ settled (goal.at.returns c).After-read_offset _ c.in-Some-read_offset.is

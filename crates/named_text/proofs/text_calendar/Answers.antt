@@ -1,5 +1,4 @@
 -- `named_text::text_calendar` meets its contract: each test settles one refusal, in their order.
-use borrow.Author.Rules.{rules}
 use mathlib.Core.Path.{◌≡◌, ap, ◌∙◌}
 use mathlib.Core.Option.{Option}
 use Rattle.calendar.specs.declared.Calendar.{Calendar}
@@ -28,4 +27,4 @@ returns c =
     let n = c in
     let k = (goal.at.returns c).After-calendar_of in
     let a = k.args in
-    c.with_cutover.ensures ∙ text_named a.name.now a.x a.text.now _ k.if-text-gt128.false (ap (λ (o : Option Calendar). of_name o a.x) (calendar k ∙ ap calendar_in n.in-Is.is))
+    c.with_cutover.ensures ∙ text_named a.name.now a.x a.text.now _ k.if-text-gt128.false (ap (λ (o : Option Calendar). of_name o a.x) (calendar k ∙ ap calendar_in n.in-Some.is))

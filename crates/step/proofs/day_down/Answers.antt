@@ -1,59 +1,61 @@
 -- `step::day_down` meets its contract. The loop passes only days that do not exist.
-use mathlib.Core.Path.{◌≡◌, sym, ap, ◌∙◌}
-use mathlib.Core.Bool.{Bool}
-use Prim.Native.Nat.{ℕ, ◌<◌}
+use Rattle.std.specs.Prelude.{Option, Some, None}
+use mathlib.Core.Path.{◌≡◌, refl, sym, ap, subst, ◌∙◌}
+use Prim.Native.Nat.{ℕ}
 use native.Mathlib.Omega.{arith}
-use lib.Dec.{ltb}
 use lib.IntN.{ℤ}
 use mir.Syntax.{w64}
 use mir.ValLaws.{to_z-of_z}
-use borrow.Author.Tests.{lt-ltb}
 use Rattle.calendar.specs.Calendar.{has_year_zero, exists, date, date_of}
-use Rattle.calendar.specs.Closed.{year_at}
+use Rattle.calendar.specs.Closed.{year_at, DayOrNone}
 use Rattle.calendar.proofs.Existing.{valid_of}
 use Rattle.step.specs.Steps.{down_to}
 use Rattle.step.proofs.Days.{here, passing, passed_days}
 use Rattle.step.proofs.day_down.Goals as goal
-use Rattle.step.proofs.day_down.Goals.{After-biased_day-n, After-loop-d}
+use Rattle.step.proofs.day_down.Goals.{After-biased_day, After-loop-d}
 
 -- a day that exists is the one that is looked for
-module _ (b : After-biased_day-n) where
+module _ (b : After-biased_day) where
   abbrev named : ℤ
   named = year_at (has_year_zero b.args.c) b.args.y
 
   abbrev d : ℕ
   d = b.loop-d.d
 
-  there : {t : Bool} → ltb 0 b.biased_day-n.result ≡ t → exists b.args.c (date named b.args.month d) ≡ t
-  there h = b.biased_day-n.ensures.there ∙ h
+  day : {n : Option ℕ} → b.biased_day.result ≡ n → DayOrNone b.args.c (date named b.args.month d) n
+  day e = subst (DayOrNone b.args.c (date named b.args.month d)) e b.biased_day.ensures
 
-  found : 0 < b.biased_day-n.result → d ≡ down_to b.args.c named b.args.month b.args.day
-  found h = sym (here b.args.c named b.args.month d (there (lt-ltb 0 b.biased_day-n.result h))) ∙ b.loop-d.invariant
+  found : (n : ℕ) → b.biased_day.result ≡ Some n → d ≡ down_to b.args.c named b.args.month b.args.day
+  found n e = sym (here b.args.c named b.args.month d (day e).0) ∙ b.loop-d.invariant
+
+no_day : (r : Option ℕ) → ((n : ℕ) → r ≡ Some n → ⊥) → r ≡ None
+no_day (Some n) f = absurd (f n refl)
+no_day None f = refl
 
 pub overflow_sub-result : goal.overflow_sub-result
 overflow_sub-result c =
-    let b = (goal.at.overflow_sub-result c).After-biased_day-n in
+    let b = (goal.at.overflow_sub-result c).After-biased_day in
     let a = b.args in
-    omega (arith, found b (omega arith), passed_days a.c (named b) a.month a.day)
+    omega (arith, found b c.in-Some.n c.in-Some.is, passed_days a.c (named b) a.month a.day)
 
 pub loop-d-preserved : goal.loop-d-preserved
 loop-d-preserved c =
-    let b = (goal.at.loop-d-preserved c).After-biased_day-n in
+    let b = (goal.at.loop-d-preserved c).After-biased_day in
     let a = b.args in
-    passing a.c (named b) a.month (d b) (omega arith) (there b (ap (ltb 0) c.if-n-ne0.false)) ∙ b.loop-d.invariant
+    passing a.c (named b) a.month (d b) (omega arith) (day b (no_day b.biased_day.result c.in_default.not-Some)) ∙ b.loop-d.invariant
 
-pub returns-then-n-ne0-clause-back : goal.returns-then-n-ne0-clause-back
-returns-then-n-ne0-clause-back c =
-    let b = (goal.at.returns-then-n-ne0-clause-back c).After-biased_day-n in
+pub returns-in-Some-clause-back : goal.returns-in-Some-clause-back
+returns-in-Some-clause-back c =
+    let b = (goal.at.returns-in-Some-clause-back c).After-biased_day in
     let a = b.args in
-    omega (arith, found b (omega arith), passed_days a.c (named b) a.month a.day)
+    omega (arith, found b c.in-Some.n c.in-Some.is, passed_days a.c (named b) a.month a.day)
 
-pub returns-then-n-ne0-clause-dated : goal.returns-then-n-ne0-clause-dated
-returns-then-n-ne0-clause-dated c =
-    let b = (goal.at.returns-then-n-ne0-clause-dated c).After-biased_day-n in
+pub returns-in-Some-clause-dated : goal.returns-in-Some-clause-dated
+returns-in-Some-clause-dated c =
+    let b = (goal.at.returns-in-Some-clause-dated c).After-biased_day in
     let a = b.args in
     let u = c.unbiased in
-    λ e. ap (date_of a.c) (to_z-of_z w64 u.result (record { sfits = u.type_inv }) ∙ u.ensures) ∙ (b.biased_day-n.ensures.dated (omega arith) ∙ ap (date (named b) a.month) (found b (omega arith)))
+    λ e. ap (date_of a.c) (to_z-of_z w64 u.result (record { sfits = u.type_inv }) ∙ u.ensures) ∙ ((day b c.in-Some.is).1 ∙ ap (date (named b) a.month) (found b c.in-Some.n c.in-Some.is))
 
 -- no day was found
 none : (h : After-loop-d) → h.loop-d.d ≡ 0 → 0 ≡ down_to h.args.c (year_at (has_year_zero h.args.c) h.args.y) h.args.month h.args.day

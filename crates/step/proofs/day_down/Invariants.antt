@@ -7,6 +7,3 @@ use Rattle.step.proofs.day_down.Given as goal
 
 abbrev pub invariant-loop-d : goal.invariant-loop-d
 invariant-loop-d l = down_to l.c (year_at (has_year_zero l.c) l.y) l.month l.d ≡ down_to l.c (year_at (has_year_zero l.c) l.y) l.month l.day
-
-abbrev pub decreases-loop-d : goal.decreases-loop-d
-decreases-loop-d l = l.d

@@ -1,29 +1,26 @@
 -- `step::day_reached` meets its contract: the tests are those of the month that is reached.
+use Rattle.std.specs.Prelude.{Result, Err}
 use mathlib.Core.Path.{◌≡◌, refl, sym, ap, ◌∙◌}
 use mathlib.Core.Bool.{true, false}
 use Prim.Native.Nat.{ℕ, ◌+◌, ◌-◌, ◌*◌, ◌<◌, ◌≤◌}
 use native.Mathlib.Omega.{arith}
 use lib.IntN.{ℤ, sub_ℕ}
-use mir.Syntax.{w64}
-use mir.ValLaws.{to_z-of_z}
 use Rattle.refusal.specs.declared.Refusal.TheVariants.{OutOfRange}
 use Rattle.signed.specs.Bias.{unbiased}
 use Rattle.signed.proofs.Machine.{crossed}
 use Rattle.calendar.specs.Calendar.{has_year_zero, exists, in_years}
 use Rattle.calendar.specs.Answers.{day_answer}
 use Rattle.calendar.specs.declared.Date.{Date}
-use Rattle.calendar.specs.declared.DayAnswer.{DayAnswer}
 use Rattle.calendar.proofs.Labels.{first_low, first_year}
 use Rattle.calendar.proofs.Answering.{year_out, date_there}
 use Rattle.step.specs.Answers.{stepped_back}
 use Rattle.step.specs.Closed.{month_at, month_count, months_of}
 use Rattle.step.specs.Steps.{steps_down, date_down, date_after, days_back}
-use Rattle.step.specs.declared.DayReached.{DayReached}
 use Rattle.step.proofs.Answering.{far_below, far_above, raised_is, month_inside, count_small, date_at_lem, back_at, year_before_lem, year_past, year_between}
 use Rattle.step.proofs.Existing.{dates_there}
-use borrow.Author.Rules.{rules}
 use Rattle.step.proofs.day_reached.Goals as goal
-use Rattle.step.proofs.day_reached.Goals.{After-biased-k}
+use Rattle.step.proofs.day_reached.Goals.{After-biased-k, then-k-via-then-k, then-k-via-else-k+then-k-2, then-j-first_year-via-then-j-first_year, then-j-first_year-via-else-j-first_year+then-j}
+use Rattle.refusal.specs.declared.Refusal.{Refusal}
 
 module _ (b : After-biased-k) where
   abbrev k : ℕ
@@ -45,8 +42,8 @@ module _ (b : After-biased-k) where
   back z = days_back b.args.part b.args.c z b.args.x
 
   -- a date past the years is refused
-  past : (z : ℤ) → z ≡ unbiased k → in_years (moved z).year ≡ false → DayReached.Refused OutOfRange ≡ stepped_back (day_answer b.args.c (moved b.args.n)) (back b.args.n)
-  past z e h = ap (λ (a : DayAnswer). stepped_back a (back b.args.n)) (year_out true b.args.c (moved z) h ∙ ap (λ (u : ℤ). day_answer b.args.c (moved u)) (e ∙ offset_is))
+  past : (z : ℤ) → z ≡ unbiased k → in_years (moved z).year ≡ false → Err OutOfRange ≡ stepped_back (day_answer b.args.c (moved b.args.n)) (back b.args.n)
+  past z e h = ap (λ (a : Result ℤ Refusal). stepped_back a (back b.args.n)) (year_out true b.args.c (moved z) h ∙ ap (λ (u : ℤ). day_answer b.args.c (moved u)) (e ∙ offset_is))
 
   abbrev steps : ℕ
   steps = k - 9223372036854535808
@@ -88,13 +85,11 @@ pub returns-then-k : goal.returns-then-k
 returns-then-k c =
     let b = (goal.at.returns-then-k c).After-biased-k in
     let a = c.args in
-    past b (unbiased (k b)) refl (year_before_lem a.c a.x a.y c.requires a.part (k b) 9223372036854775808 (omega (arith, far_below a.part (count b) (k b) (small b) c.if-k.true)))
-
-pub returns-then-k-2 : goal.returns-then-k-2
-returns-then-k-2 c =
-    let b = (goal.at.returns-then-k-2 c).After-biased-k in
-    let a = c.args in
-    past b (unbiased (k b)) refl (year_past a.c a.x a.y c.requires a.part (k b) 9223372036854775808 (far_above a.part (count b) (k b) c.if-k-2.true))
+    past b (unbiased (k b)) refl
+    (elim c.then-k.branch [
+      | then-k-via-then-k w ↦ year_before_lem a.c a.x a.y c.requires a.part (k b) 9223372036854775808 (omega (arith, far_below a.part (count b) (k b) (small b) w.if-k.true))
+      | then-k-via-else-k+then-k-2 w ↦ year_past a.c a.x a.y c.requires a.part (k b) 9223372036854775808 (far_above a.part (count b) (k b) w.if-k-2.true)
+    ])
 
 pub month_count-requires : goal.month_count-requires
 month_count-requires c = let a = c.args in month_inside a.c a.x a.y c.requires
@@ -108,19 +103,14 @@ returns-then-j-first_year c =
     let b = (goal.at.returns-then-j-first_year c).After-biased-k in
     let r = reached b c.if-k.false _ _ c.month_count.ensures c.month_after-j.ensures in
     past b (sub_ℕ (steps b) 240000) (steps_is b c.if-k.false _ _ c.month_count.ensures c.month_after-j.ensures)
-    (year_before_lem a.c a.x a.y c.requires a.part (steps b) 240000 (omega (arith, r, c.first_year.ensures.0, c.if-j-first_year.true)))
+    (elim c.then-j-first_year.branch [
+      | then-j-first_year-via-then-j-first_year w ↦ year_before_lem a.c a.x a.y c.requires a.part (steps b) 240000 (omega (arith, r, c.first_year.ensures.0, w.if-j-first_year.true))
+      | then-j-first_year-via-else-j-first_year+then-j w ↦ year_past a.c a.x a.y c.requires a.part (steps b) 240000 (omega (arith, r, w.if-j.true))
+    ])
 
-pub returns-then-j : goal.returns-then-j
-returns-then-j c =
-    let a = c.args in
-    let b = (goal.at.returns-then-j c).After-biased-k in
-    let r = reached b c.if-k.false _ _ c.month_count.ensures c.month_after-j.ensures in
-    past b (sub_ℕ (steps b) 240000) (steps_is b c.if-k.false _ _ c.month_count.ensures c.month_after-j.ensures)
-    (year_past a.c a.x a.y c.requires a.part (steps b) 240000 (omega (arith, r, c.if-j.true)))
-
-pub day_in-d-requires : goal.day_in-d-requires
-day_in-d-requires c =
-    let b = (goal.at.day_in-d-requires c).After-biased-k in
+pub day_in-requires : goal.day_in-requires
+day_in-requires c =
+    let b = (goal.at.day_in-requires c).After-biased-k in
     let dated = date_is b c.if-k.false _ _ c.month_count.ensures c.month_after-j.ensures _ c.first_year.ensures.0 c.if-j-first_year.false c.if-j.false in
     let held = there b c.if-k.false _ _ c.month_count.ensures c.month_after-j.ensures _ c.first_year.ensures.0 c.if-j-first_year.false c.if-j.false in
     (omega (arith, c.first_year.ensures.0, first_low (has_year_zero c.args.c), c.if-j-first_year.false), (omega (arith, c.if-j.false), ap (exists c.args.c) dated ∙ held))
@@ -128,11 +118,11 @@ day_in-d-requires c =
 pub returns : goal.returns
 returns c =
     let b = (goal.at.returns c).After-biased-k in
-    let d = c.day_in-d in
+    let d = c.day_in in
     let dated = date_is b c.if-k.false _ _ c.month_count.ensures c.month_after-j.ensures _ c.first_year.ensures.0 c.if-j-first_year.false c.if-j.false in
     let held = there b c.if-k.false _ _ c.month_count.ensures c.month_after-j.ensures _ c.first_year.ensures.0 c.if-j-first_year.false c.if-j.false in
     let within = inside b c.if-k.false _ _ c.month_count.ensures c.month_after-j.ensures _ c.first_year.ensures.0 c.if-j-first_year.false c.if-j.false in
     let stepped = back_is b c.if-k.false _ _ c.month_count.ensures c.month_after-j.ensures _ c.first_year.ensures.0 c.if-j-first_year.false c.if-j.false in
     λ i. stepped_back
-    ((ap DayAnswer.Is (to_z-of_z w64 d.result.number (search rules)) ∙ date_there c.args.c (date_after c.args.part c.args.c c.args.n c.args.x) d.result.number within held (d.ensures.dated ∙ dated)) i)
+    ((date_there c.args.c (date_after c.args.part c.args.c c.args.n c.args.x) d.result.number within held (d.ensures.dated ∙ dated)) i)
     ((d.ensures.back ∙ stepped) i)

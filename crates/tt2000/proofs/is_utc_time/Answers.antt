@@ -21,11 +21,11 @@ pub returns-then-f-ge1000000000 : goal.returns-then-f-ge1000000000
 unfolding is_utc_time
 returns-then-f-ge1000000000 c =
     let a = c.args in
-    rw (le-ltb a.f.nanosecond 1000000000 c.if-f-ge1000000000.true, and-false (is_second (leaps a.s.now) a.f), and-false (ltb a.f.hour 24 && ltb a.f.minute 60))
+    rw (le-ltb a.f.nanosecond 1000000000 c.if-f-ge1000000000.true, and-false (is_second (leaps a.list.bytes.now) a.f), and-false (ltb a.f.hour 24 && ltb a.f.minute 60))
 
 pub returns : goal.returns
 unfolding is_utc_time
 returns c =
     let f = c.args.f in
     c.is_second.ensures
-    ∙ rw (lt-ltb f.hour 24 c.if-f-ge24.false, lt-ltb f.minute 60 c.if-f-ge60.false, lt-ltb f.nanosecond 1000000000 c.if-f-ge1000000000.false) (sym (and-true (is_second (leaps c.args.s.now) f)))
+    ∙ rw (lt-ltb f.hour 24 c.if-f-ge24.false, lt-ltb f.minute 60 c.if-f-ge60.false, lt-ltb f.nanosecond 1000000000 c.if-f-ge1000000000.false) (sym (and-true (is_second (leaps c.args.list.bytes.now) f)))

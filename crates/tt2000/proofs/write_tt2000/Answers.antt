@@ -1,13 +1,15 @@
 -- `tt2000::write_tt2000` meets its contract.
-use mathlib.Core.Path.{sym, ◌∙◌}
+use Rattle.std.proofs.Common.{sym, ap, ◌∙◌, false, ◌≡◌, List, ℕ}
+use Rattle.leap_seconds.specs.Leaps.{is_good}
 use Rattle.tt2000.specs.Tt2000.{write_tt2000}
 use Rattle.tt2000.proofs.Writing.{impossible_time}
 use Rattle.tt2000.proofs.write_tt2000.Goals as goal
 
-pub returns-then-not-is_good : goal.returns-then-not-is_good
+pub returns-in_default : goal.returns-in_default
 unfolding write_tt2000
-returns-then-not-is_good c = rw (sym c.is_good.ensures ∙ c.if-not-is_good.true)
+returns-in_default c = let e : is_good c.args.s.now ≡ false = c.in_default.ensures in rw e
 
 pub returns-then-not-is_utc_time : goal.returns-then-not-is_utc_time
 returns-then-not-is_utc_time c =
-    sym (impossible_time c.args.s.now c.args.f (sym c.is_good.ensures ∙ c.if-not-is_good.false) (sym c.is_utc_time.ensures ∙ c.if-not-is_utc_time.true))
+    let l = c.in-Some.list in
+    sym (impossible_time l.bytes.now c.args.f l.good (sym c.is_utc_time.ensures ∙ c.if-not-is_utc_time.true)) ∙ ap (λ (s : List ℕ). write_tt2000 s c.args.f) c.in-Some.ensures

@@ -1,40 +1,21 @@
 -- `units_text::since_at` meets its contract: each `return` is a step of the reader.
-use mathlib.Core.Path.{refl, ap, ◌∙◌}
-use Rattle.grammar.specs.Answers.{end_in}
+use Rattle.std.proofs.Common.{refl, ◌∙◌}
 use Rattle.grammar.specs.Grammar.{inside, within, every}
 use Rattle.units_text.proofs.Steps.{since_no, since_word_lem, since_gap, since_is}
 use Rattle.units_text.proofs.since_at.Goals as goal
 
-pub returns-in_default : goal.returns-in_default
-returns-in_default c = let g = c in since_no _ (g.spaces_at.ensures ∙ ap (end_in _) c.in_default.is)
+pub returns-in_err-a : goal.returns-in_err-a
+returns-in_err-a c = rw c.from_residual.ensures (since_no _ c.in_err-a.ensures)
 
 pub word_at-requires : goal.word_at-requires
 unfolding every within inside
 word_at-requires c = refl
 
-pub returns-in_default-word_at : goal.returns-in_default-word_at
-returns-in_default-word_at c =
-    let w = c in
-    let a = c in
-    let g = c in
-    since_word_lem _ _ (g.spaces_at.ensures ∙ ap (end_in _) a.in-Found.is) (w.word_at.ensures ∙ ap (end_in _) c.in_default-word_at.is)
+pub returns-in_err-b : goal.returns-in_err-b
+returns-in_err-b c = rw c.from_residual-in_err-b.ensures (since_word_lem _ _ c.in_ok-a.ensures c.in_err-b.ensures)
 
-pub returns-in_default-spaces_at : goal.returns-in_default-spaces_at
-returns-in_default-spaces_at c =
-    let h = c in
-    let b = c in
-    let w = c in
-    let a = c in
-    let g = c in
-    since_gap _ _ (g.spaces_at.ensures ∙ ap (end_in _) a.in-Found.is) _ (w.word_at.ensures ∙ ap (end_in _) b.in-Found-word_at.is) (h.spaces_at-2.ensures ∙ ap (end_in _) c.in_default-spaces_at.is)
+pub returns-in_err-e : goal.returns-in_err-e
+returns-in_err-e c = rw c.from_residual-in_err-e.ensures (since_gap _ _ c.in_ok-a.ensures _ c.in_ok-b.ensures c.in_err-e.ensures)
 
 pub returns : goal.returns
-returns c =
-    let e = c in
-    let h = c in
-    let b = c in
-    let w = c in
-    let a = c in
-    let g = c in
-    since_is _ _ (g.spaces_at.ensures ∙ ap (end_in _) a.in-Found.is) _ _ (w.word_at.ensures ∙ ap (end_in _) b.in-Found-word_at.is) (h.spaces_at-2.ensures ∙ ap (end_in _) e.in-Found-spaces_at.is)
-    ∙ c.date_at.ensures
+returns c = since_is _ _ c.in_ok-a.ensures _ _ c.in_ok-b.ensures c.in_ok-e.ensures ∙ c.date_at.ensures

@@ -1,4 +1,5 @@
 -- `calendar::ordinal::biased_day` meets its contract.
+use Rattle.std.specs.Prelude.{Some}
 use mathlib.Core.Path.{◌≡◌, sym, ap, ◌∙◌, subst}
 use mathlib.Core.Bool.{Bool, true}
 use Prim.Native.Nat.{ℕ, ◌+◌, ◌≤◌, ◌<◌}
@@ -64,15 +65,15 @@ overflow_add-result c =
     let r = c.rule_of-r.result in
     record { fits = omega (arith, c.days_before-n.ensures, c.origin.ensures, w.1.0, w.1.1, year_most r v.y, month_room (kind_at r v.y) v.m (kind_low r v.y) (omega (arith, w.1.1.0))) }
 
-pub returns-then-is_proper : goal.returns-then-is_proper
-returns-then-is_proper c =
-    let g = goal.at.returns-then-is_proper c in
-    let a = c.args in
-    subst (DayOrNone a.c (written a.c a.y a.month a.day)) (sym (λ i. day_is g.After-days_before-n i + c.origin.ensures i))
-    (late_answer a.c a.y a.month a.day (possible g.After-place_at-p) (early g.After-is_early_day c.if-is_early_day.false) (proper g.After-is_proper c.if-is_proper.true))
-
 pub returns : goal.returns
 returns c =
     let g = goal.at.returns c in
     let a = c.args in
-    late_none a.c a.y a.month a.day (possible g.After-place_at-p) (early g.After-is_early_day c.if-is_early_day.false) (proper g.After-is_proper c.if-is_proper.false)
+    subst (DayOrNone a.c (written a.c a.y a.month a.day)) (sym (λ i. Some (day_is g.After-days_before-n i + c.origin.ensures i)))
+    (late_answer a.c a.y a.month a.day (possible g.After-place_at-p) (early g.After-is_early_day c.if-is_early_day.false) (proper g.After-is_proper c.if-not-is_proper.false))
+
+pub returns-then-not-is_proper : goal.returns-then-not-is_proper
+returns-then-not-is_proper c =
+    let g = goal.at.returns-then-not-is_proper c in
+    let a = c.args in
+    late_none a.c a.y a.month a.day (possible g.After-place_at-p) (early g.After-is_early_day c.if-is_early_day.false) (proper g.After-is_proper c.if-not-is_proper.true)

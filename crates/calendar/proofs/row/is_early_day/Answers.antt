@@ -36,16 +36,17 @@ from : (e : In-Standard) → late_from (counts e.args.c) ≡ 4230526 + days_used
 from e = ap (λ (x : Calendar). late_from (counts x)) e.in-Standard.is ∙ late_from_lem e.in-Standard.k
 
 pub returns-then-n-lt-FIRST : goal.returns-then-n-lt-FIRST
-returns-then-n-lt-FIRST c = sym (lt-ltb c.args.n _ (omega (arith, from (goal.at.returns-then-n-lt-FIRST c).In-Standard, c.if-n-lt-FIRST.true)))
+returns-then-n-lt-FIRST c =
+    lt-ltb c.args.n 4230526 c.if-n-lt-FIRST.true ∙ sym (lt-ltb c.args.n (late_from (counts c.args.c)) (omega (arith, from (goal.at.returns-then-n-lt-FIRST c).In-Standard, c.if-n-lt-FIRST.true)))
 
 -- from the cutover that is carried on, whether it is allowed or not
-pub returns-then-k-n : goal.returns-then-k-n
-returns-then-k-n c =
-    let e = (goal.at.returns-then-k-n c).In-Standard in
-    sym (le-ltb c.args.n _ (omega (arith, from e, within e.in-Standard.k, c.if-k-n.true)))
+pub returns-else-n-k : goal.returns-else-n-k
+returns-else-n-k c =
+    let e = (goal.at.returns-else-n-k c).In-Standard in
+    le-ltb c.args.n _ c.if-n-k.false ∙ sym (le-ltb c.args.n (late_from (counts c.args.c)) (omega (arith, from e, within e.in-Standard.k, c.if-n-k.false)))
 
 -- between the first and that
-pub returns-in-Standard : goal.returns-in-Standard
-returns-in-Standard c =
-    let e = (goal.at.returns-in-Standard c).In-Standard in
-    c.is_allowed.ensures ∙ (between e.in-Standard.k c.args.n c.if-n-lt-FIRST.false c.if-k-n.false ∙ ap (ltb c.args.n) (sym (from e)))
+pub returns-then-n-k : goal.returns-then-n-k
+returns-then-n-k c =
+    let e = (goal.at.returns-then-n-k c).In-Standard in
+    c.is_allowed.ensures ∙ (between e.in-Standard.k c.args.n c.if-n-lt-FIRST.false c.if-n-k.true ∙ ap (ltb c.args.n) (sym (from e)))

@@ -16,6 +16,6 @@ unfolding record_number
 returns c =
     let r = c.args.r.now in
     let back : little_bytes 8 (little_endian r) ≡ r = ap (λ (n : ℕ). little_bytes n (little_endian r)) (sym c.requires) ∙ bytes_back r (λ i. omega (arith, c.type_inv.r i)) in
-    to_z-of_z w64 c.signed_of.result (record { sfits = c.signed_of.type_inv })
-    ∙ (c.signed_of.ensures
+    to_z-of_z w64 c.cast_signed.result (record { sfits = c.cast_signed.type_inv })
+    ∙ (c.cast_signed.ensures
     ∙ ap (to_z w64) (c.in_order.ensures ∙ (ap (λ (w : ℕ). little_endian (in_order c.args.order (little_bytes 8 w))) c.little_endian.ensures ∙ ap (λ (t : List ℕ). little_endian (in_order c.args.order t)) back)))

@@ -12,6 +12,6 @@ use Rattle.datetime64_runs.proofs.records.record_of.Goals as goal
 pub returns : goal.returns
 unfolding record_of
 returns c =
-    let e = c.bits_of.ensures ∙ ap (of_z w64) (to_z-of_z w64 c.args.n c.ranges.n) in
+    let e = c.cast_unsigned.ensures ∙ ap (of_z w64) (to_z-of_z w64 c.args.n c.ranges.n) in
     c.little_bytes.ensures
-    ∙ (ap (little_bytes 8) c.in_order.ensures ∙ (ordered_back c.args.order c.bits_of.result ∙ ap (λ (w : ℕ). in_order c.args.order (little_bytes 8 w)) e))
+    ∙ (ap (little_bytes 8) c.in_order.ensures ∙ (ordered_back c.args.order c.cast_unsigned.result ∙ ap (λ (w : ℕ). in_order c.args.order (little_bytes 8 w)) e))

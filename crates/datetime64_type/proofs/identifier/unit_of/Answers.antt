@@ -1,81 +1,42 @@
--- `datetime64_type::identifier::unit_of` meets its contract. The word's number is looked up in the table: the key of an arm stands for the
--- arm's unit, and a number that is no key of any arm is in no row. The table has no word of more than eight letters.
-use borrow.Author.Rules.{rules}
-use borrow.Author.Tests.{ne_eqb}
-use native.Mathlib.Omega.{arith}
-use Prim.Native.Nat.{ℕ}
-use mathlib.Core.Path.{◌≡◌, refl, sym, ap, ◌∙◌}
+-- `datetime64_type::identifier::unit_of` meets its contract: the check finds the arms. Of two bytes the first tells a unit's word, and no
+-- unit's word is longer.
+use Rattle.std.proofs.Common.{ℕ, ◌≤◌, ◌≡◌, ◌||◌, false, List, [], ◌∷◌, sym, ◌∙◌, length, slice_index_or, arith, refl, nat_le, nat_eq}
+use Rattle.std.specs.List.{list_any}
+use Rattle.std.proofs.Math.Option.{none}
+use borrow.Author.Tests.{lt-leb, ne_eqb}
+use Rattle.grammar.specs.Grammar.{within, inside, starts}
+use Rattle.grammar.specs.Rules.{any_of}
+use Rattle.grammar.proofs.Places.{starts_at, set_any}
 use Rattle.word_table.specs.Table.{lookup}
-use Rattle.word_table.proofs.Words.{by_number, lookup_long, lookup_bytes}
+use Rattle.word_table.proofs.Words.{lookup_not}
 use Rattle.datetime64_type.specs.Identifier.{unit_words}
-use Rattle.datetime64_type.proofs.Identifiers.{words_headed}
 use Rattle.datetime64_type.proofs.identifier.unit_of.Goals as goal
-use Rattle.datetime64_type.proofs.identifier.unit_of.Goals.{After-packed_of-w}
 
-pub returns-then-word-gt8 : goal.returns-then-word-gt8
-returns-then-word-gt8 c = lookup_long unit_words c.args.word.now c.if-word-gt8.true
+abbrev firsts : List ℕ
+firsts = 97 ∷ 102 ∷ 109 ∷ 110 ∷ 112 ∷ 117 ∷ []
 
--- the table gives the word what it gives the word's number
-number : (c : After-packed_of-w) {k : ℕ} → c.packed_of-w.result ≡ k → lookup unit_words c.args.word.now ≡ by_number unit_words k
-number c e =
-    lookup_bytes unit_words c.args.word.now words_headed c.requires c.if-word-eq0.false (λ i. omega (arith, c.type_inv.word i))
-    ∙ ap (by_number unit_words) (sym c.packed_of-w.ensures ∙ e)
+first_tells : (w : List ℕ) → 2 ≤ length w → within (any_of firsts) (slice_index_or w 0 0) ≡ false → lookup unit_words w ≡ none
+unfolding starts within inside
+first_tells w l e =
+    let t : starts (any_of firsts) w ≡ false = starts_at (any_of firsts) w 0 (omega arith) ∙ e in
+    lookup_not (λ v. nat_le (length v) 1 || starts (any_of firsts) v) unit_words w refl (rw (lt-leb (length w) 1 (omega arith), t))
 
-pub returns-in-89 : goal.returns-in-89
-returns-in-89 c = number (goal.at.returns-in-89 c).After-packed_of-w c.in-89.is
+pub returns-in_default-9 : goal.returns-in_default-9
+returns-in_default-9 c =
+    let w = c.args.word.now in
+    let b = slice_index_or w 0 0 in
+    let r = c.in_default.in_default-own.rest in
+    let e : list_any (λ y. nat_eq y b) firsts ≡ false = rw (
+      ne_eqb 97 b (λ x. r.1 (sym x)),
+      ne_eqb 102 b (λ x. r.0.1 (sym x)),
+      ne_eqb 109 b (λ x. r.0.0.0.0.0.1 (sym x)),
+      ne_eqb 110 b (λ x. r.0.0.0.1 (sym x)),
+      ne_eqb 112 b (λ x. r.0.0.1 (sym x)),
+      ne_eqb 117 b (λ x. r.0.0.0.0.1 (sym x)),
+    ) in
+    first_tells w (omega arith) (set_any firsts b ∙ e)
 
-pub returns-in-77 : goal.returns-in-77
-returns-in-77 c = number (goal.at.returns-in-77 c).After-packed_of-w c.in-77.is
-
-pub returns-in-87 : goal.returns-in-87
-returns-in-87 c = number (goal.at.returns-in-87 c).After-packed_of-w c.in-87.is
-
-pub returns-in-68 : goal.returns-in-68
-returns-in-68 c = number (goal.at.returns-in-68 c).After-packed_of-w c.in-68.is
-
-pub returns-in-104 : goal.returns-in-104
-returns-in-104 c = number (goal.at.returns-in-104 c).After-packed_of-w c.in-104.is
-
-pub returns-in-109 : goal.returns-in-109
-returns-in-109 c = number (goal.at.returns-in-109 c).After-packed_of-w c.in-109.is
-
-pub returns-in-115 : goal.returns-in-115
-returns-in-115 c = number (goal.at.returns-in-115 c).After-packed_of-w c.in-115.is
-
-pub returns-in-28019 : goal.returns-in-28019
-returns-in-28019 c = number (goal.at.returns-in-28019 c).After-packed_of-w c.in-28019.is
-
-pub returns-in-30067 : goal.returns-in-30067
-returns-in-30067 c = number (goal.at.returns-in-30067 c).After-packed_of-w c.in-30067.is
-
-pub returns-in-28275 : goal.returns-in-28275
-returns-in-28275 c = number (goal.at.returns-in-28275 c).After-packed_of-w c.in-28275.is
-
-pub returns-in-28787 : goal.returns-in-28787
-returns-in-28787 c = number (goal.at.returns-in-28787 c).After-packed_of-w c.in-28787.is
-
-pub returns-in-26227 : goal.returns-in-26227
-returns-in-26227 c = number (goal.at.returns-in-26227 c).After-packed_of-w c.in-26227.is
-
-pub returns-in-24947 : goal.returns-in-24947
-returns-in-24947 c = number (goal.at.returns-in-24947 c).After-packed_of-w c.in-24947.is
-
-pub returns-in_default : goal.returns-in_default
-returns-in_default c =
-    let x = c.packed_of-w.result in
-    number (goal.at.returns-in_default c).After-packed_of-w refl
-    ∙ rw (
-      ne_eqb x 89 (search rules),
-      ne_eqb x 77 (search rules),
-      ne_eqb x 87 (search rules),
-      ne_eqb x 68 (search rules),
-      ne_eqb x 104 (search rules),
-      ne_eqb x 109 (search rules),
-      ne_eqb x 115 (search rules),
-      ne_eqb x 28019 (search rules),
-      ne_eqb x 30067 (search rules),
-      ne_eqb x 28275 (search rules),
-      ne_eqb x 28787 (search rules),
-      ne_eqb x 26227 (search rules),
-      ne_eqb x 24947 (search rules),
-    )
+pub returns-in_default-10 : goal.returns-in_default-10
+returns-in_default-10 c =
+    let w = c.args.word.now in
+    lookup_not (λ v. nat_le (length v) 2) unit_words w refl (lt-leb (length w) 2 (omega arith))

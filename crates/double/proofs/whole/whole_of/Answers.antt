@@ -1,55 +1,40 @@
 -- `double::whole::whole_of` meets its contract. proofs/WholeSize.antt goes from the fields to the definition.
-use mathlib.Core.Path.{◌≡◌, sym, ap, ◌∙◌, subst}
+use Rattle.std.specs.Prelude.{Ok, Err}
+use mathlib.Core.Path.{ap, ◌∙◌, subst}
 use Prim.Native.Nat.{◌<◌}
+use native.Mathlib.Omega.{arith}
+use Rattle.std.proofs.lemmas.Grind.{common_steps}
 use lib.Dec.{T}
 use lib.Ieee.{binary64, fits}
-use lib.Ieee.Compare.{differs_from_itself}
 use borrow.Author.Rules.{rules}
 use Rattle.double.specs.declared.Pattern.{Pattern}
-use Rattle.double.specs.declared.whole.Size.{Size}
-use Rattle.double.specs.declared.whole.Size.TheVariants.{Of, Fraction, Large}
 use Rattle.signed.specs.Sign.{with_sign}
-use Rattle.double.specs.Whole.{in64, whole_of}
+use Rattle.double.specs.Whole.{in64}
 use Rattle.double.specs.Fields.{WholeSize}
-use Rattle.double.proofs.Bits.{field_of, digits_of, no_nan, given_field, given_finite}
-use Rattle.double.proofs.WholeSize.{when_whole, when_fraction, when_large, when_infinite}
+use Rattle.double.proofs.Bits.{field_of}
+use Rattle.double.proofs.WholeSize.{when_whole, when_refused, when_infinite}
 use Rattle.double.proofs.whole.whole_of.Goals as goal
-use Rattle.double.proofs.whole.whole_of.Goals.{After-size_of-size, Else-p-eq2047}
+use Rattle.double.proofs.whole.whole_of.Goals.{In_ok-p}
 
-finite_field : (c : Else-p-eq2047) → field_of c.args.x < 2047
-finite_field c = given_finite c.args.x c.pattern_of-p.result c.pattern_of-p.ensures c.if-p-eq2047.false
+finite_field : (c : In_ok-p) → field_of c.args.x < 2047
+finite_field c = subst (λ (k : Pattern). k.field < 2047) c.in_ok-p.ensures.0 c.in_ok-p.ensures.1
 
--- ---- what `size_of` says
-said : (c : After-size_of-size) (r : Size) → c.size_of-size.result ≡ r → WholeSize r (field_of c.args.x) (digits_of c.args.x)
-said c r e = subst (λ (k : Pattern). WholeSize r k.field k.digits) c.pattern_of-p.ensures (subst (λ (k : Size). WholeSize k c.pattern_of-p.result.field c.pattern_of-p.result.digits) e c.size_of-size.ensures)
+pub returns-in_err-p : goal.returns-in_err-p
+returns-in_err-p c =
+    let e = c.in_err-p.ensures.0 in
+    let f = when_infinite c.args.x c.in_err-p.ensures.1 in
+    grind (arith, common_steps, e, f)
 
-pub returns-then-x : goal.returns-then-x
-unfolding whole_of
-returns-then-x c = sym (ap whole_of (differs_from_itself c.args.x (subst T (sym c.if-x.true) tt)))
-
-pub pattern_of-p-requires : goal.pattern_of-p-requires
-pattern_of-p-requires c = no_nan c.args.x c.if-x.false
-
-pub returns-then-p-eq2047 : goal.returns-then-p-eq2047
-returns-then-p-eq2047 c =
+pub returns-in_err-size_of : goal.returns-in_err-size_of
+returns-in_err-size_of c =
     let held : T (fits binary64 c.args.x) = search rules in
-    when_infinite c.args.x held (sym (given_field c.args.x c.pattern_of-p.result c.pattern_of-p.ensures) ∙ c.if-p-eq2047.true)
+    let o = (goal.at.returns-in_err-size_of c).In_ok-p in
+    let e = when_refused c.args.x held (finite_field o) _ (subst (λ (k : Pattern). WholeSize (Err c.in_err-size_of.field-0.0) k.field k.digits) o.in_ok-p.ensures.0 c.in_err-size_of.ensures) in
+    grind (arith, common_steps, e)
 
-pub returns-in-Of : goal.returns-in-Of
-returns-in-Of c =
+pub returns : goal.returns
+returns c =
     let held : T (fits binary64 c.args.x) = search rules in
-    let m = (goal.at.returns-in-Of c).After-size_of-size in
-    let n = c.in-Of.n in
-    c.with_sign.ensures ∙ (ap (λ (t : Pattern). in64 (with_sign t.negative n)) m.pattern_of-p.ensures ∙ when_whole c.args.x held (finite_field (goal.at.returns-in-Of c).Else-p-eq2047) n (said m (Of n) c.in-Of.is))
-
-pub returns-in-Fraction : goal.returns-in-Fraction
-returns-in-Fraction c =
-    let held : T (fits binary64 c.args.x) = search rules in
-    let m = (goal.at.returns-in-Fraction c).After-size_of-size in
-    when_fraction c.args.x held (finite_field (goal.at.returns-in-Fraction c).Else-p-eq2047) (said m Fraction c.in-Fraction.is)
-
-pub returns-in-Large : goal.returns-in-Large
-returns-in-Large c =
-    let held : T (fits binary64 c.args.x) = search rules in
-    let m = (goal.at.returns-in-Large c).After-size_of-size in
-    when_large c.args.x held (finite_field (goal.at.returns-in-Large c).Else-p-eq2047) (said m Large c.in-Large.is)
+    let o = (goal.at.returns c).In_ok-p in
+    let n = c.in_ok-size_of.field-0 in
+    c.with_sign.ensures ∙ (ap (λ (t : Pattern). in64 (with_sign t.negative n)) o.in_ok-p.ensures.0 ∙ when_whole c.args.x held (finite_field o) n (subst (λ (k : Pattern). WholeSize (Ok n) k.field k.digits) o.in_ok-p.ensures.0 c.in_ok-size_of.ensures))

@@ -9,6 +9,6 @@ use Rattle.runs.proofs.element.start_on.Goals as goal
 
 pub start_of-requires : goal.start_of-requires
 start_of-requires c =
-    let a = c.args.axis in
+    let a = c.args.on.axis in
     let f : SFits w64 a.reference = search rules in
-    rw (to_z-of_z w64 a.reference f) (in_good a (sym c.requires))
+    rw (to_z-of_z w64 a.reference f) (in_good a (sym c.args.on.good))
