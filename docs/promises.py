@@ -6,8 +6,8 @@
 The columns of a row, of which each is `-` where there is nothing, or "the same" for what stands in the row above:
 
 - spec: a file crate/specs/File.antt and the names that it defines, and so on: `a/specs/A.antt` `x`, `y`, `b/specs/B.antt` `z`.
-- function: crate::name or crate::module::name, and bare names of the crate named last; a bare uppinalo_name is of the crate uppinalo. Or
-  "every call", which counts for none.
+- function: crate::name or crate::module::name, with Type:: before the name of a method, and bare names of the crate named last; a bare
+  uppinalo_name is of the crate uppinalo. Or "every call", which counts for none.
 - theorem: names and in brackets the file of proofs/, or of specs/ for a field of a record, that defines them: `x`, `y` (`a/proofs/A.antt`).
 - edits: must-fail edits crate/label, and bare labels of the crate named last.
 - test: calls of hosts/calls.txt after `hosts: `, programs, and words.
@@ -99,6 +99,14 @@ def law_faults(column, cell):
             yield from (f"{name}: not defined in {file}" for name in names if name not in defined(CRATES / file))
 
 
+def has_function(text, types, name):
+    """Whether a source file has a function, or the impl or trait of a type a method, of that name."""
+    if not types:
+        return re.search(rf"^(?:pub(?:\(crate\))? )?(?:extern \"C\" )?fn {name}\b", text, re.MULTILINE)
+    of_type = re.compile(rf"^(?:impl\b[^{{]*\b{types[0]}\b|(?:pub )?trait {types[0]}\b).*?^}}", re.MULTILINE | re.DOTALL)
+    return any(re.search(rf"^    (?:pub(?:\(crate\))? )?fn {name}\b", body, re.MULTILINE) for body in of_type.findall(text))
+
+
 def function_faults(cell):
     if cell in ("-", "every call"):
         return
@@ -111,10 +119,11 @@ def function_faults(cell):
         if len(path) > 1:
             crate = path[0]
         of = "uppinalo" if path[-1].startswith("uppinalo_") else crate
-        files = "/".join(path[1:-1]) or "**/*"
+        types = [word for word in path[1:-1] if word[0].isupper()]
+        files = "/".join(word for word in path[1:-1] if word not in types) or "**/*"
         if not of:
             yield f"{name}: of which crate?"
-        elif not any(re.search(rf"\bfn {path[-1]}\b", file.read_text()) for file in CRATES.glob(f"{of}/src/{files}.rt")):
+        elif not any(has_function(file.read_text(), types, path[-1]) for file in CRATES.glob(f"{of}/src/{files}.rt")):
             yield f"{name}: no such function"
 
 

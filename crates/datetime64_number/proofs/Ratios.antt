@@ -37,7 +37,7 @@ pub has_time : (n : ℤ) → 0 < biased n → is_not_a_time n ≡ false
 has_time (pos n) h = refl
 has_time (negsuc n) h = ne_eqb n 9223372036854775807 (λ e. omega arith)
 
-no_time : (n : ℤ) → SFits w64 n → biased n ≡ 0 → is_not_a_time n ≡ true
+pub no_time : (n : ℤ) → SFits w64 n → biased n ≡ 0 → is_not_a_time n ≡ true
 no_time (pos n) f h = absurd (omega arith)
 no_time (negsuc n) f h = eq-eqb n 9223372036854775807 (omega (arith, f.sfits))
 

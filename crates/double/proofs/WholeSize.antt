@@ -83,11 +83,11 @@ module _ (x : Float) (F : T (fits binary64 x)) where
       (nothing_over h (ap (λ (k : ℕ). k % 2 ^ 1074) (sym v) ∙ mul-mod_left n (2 ^ 1074))
       ∙ ap (λ (k : ℕ). in64 (with_sign (sign_of x) k)) (ap (λ (k : ℕ). k / 2 ^ 1074) (sym v) ∙ mul-div_cancel n (pow_pos 1074)))
 
-  when_fraction : field_of x < 2047 → WholeSize (Err Inexact) (field_of x) (digits_of x) → Err Inexact ≡ whole_of x
+  pub when_fraction : field_of x < 2047 → WholeSize (Err Inexact) (field_of x) (digits_of x) → Err Inexact ≡ whole_of x
   unfolding SizeOf
   when_fraction h v = sym (by_size h ∙ ap (λ (b : Bool). cond b (in64 (with_sign (sign_of x) (size_of x / 2 ^ 1074))) (Err Inexact)) (ne_eqb (size_of x % 2 ^ 1074) 0 v))
 
-  when_large : field_of x < 2047 → WholeSize (Err OutOfRange) (field_of x) (digits_of x) → Err OutOfRange ≡ whole_of x
+  pub when_large : field_of x < 2047 → WholeSize (Err OutOfRange) (field_of x) (digits_of x) → Err OutOfRange ≡ whole_of x
   unfolding SizeOf
   when_large h v = large_no (sign_of x) (size_of x / 2 ^ 1074) v.0 ∙ sym (nothing_over h v.1)
 

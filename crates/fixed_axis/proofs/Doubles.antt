@@ -29,7 +29,7 @@ module _ (c : Calendar) (p : Period) (R : ℤ) where
   displaced d (inf s) v = absurd v
   displaced d (fin s m e) v = λ i. reading_at c (R +ℤ v.0 i) ((v.1 ∙ count_exact R (length_of p) s m e) i)
 
-  not_finite : (x : Float) → IsNotFinite x → Err NotFinite ≡ read_double c p R x
+  pub not_finite : (x : Float) → IsNotFinite x → Err NotFinite ≡ read_double c p R x
   unfolding IsNotFinite read_double
   not_finite nan v = refl
   not_finite (inf s) v = refl
@@ -41,7 +41,7 @@ module _ (c : Calendar) (p : Period) (R : ℤ) where
   double_of s m e z exact g = reading_of c (nearest_count R (length_of p) s m e) z (eqb (distance R (length_of p) s m e (nearest_count R (length_of p) s m e)) 0) exact g
 
   module _ (h : in_range c R ≡ true) where
-    large : (x : Float) → IsLarge (length_of p) x → Err OutOfRange ≡ read_double c p R x
+    pub large : (x : Float) → IsLarge (length_of p) x → Err OutOfRange ≡ read_double c p R x
     unfolding IsLarge read_double
     large nan v = absurd v
     large (inf s) v = absurd v

@@ -30,10 +30,11 @@ fn run_len(s: &[u8], at: usize, lo: u8, hi: u8) -> usize
     ensures value { result ≡ length (take_while (λ b. nat_le lo b && nat_le b hi) (drop at s.now)) }
     ensures in_text { result ≤ length s.now - at }
 {
-    s.iter()
-        .skip(at)
-        .take_while(|b| (lo..=hi).contains(*b))
-        .count()
+    if s.len() <= at {
+        return 0;
+    }
+    let (_, rest) = s.split_at(at);
+    rest.iter().take_while(|b| (lo..=hi).contains(*b)).count()
 }
 
 // Where the bytes from lo to hi that stand at a place end.

@@ -4,7 +4,7 @@
 // answer gets it. A read or a write that fails ends the program, which tells the system's reason on standard error.
 #![tactic(auto)]
 
-ghost use Rattle.std.specs.Prelude.{IfErr};
+ghost use Rattle.std.specs.Prelude.{◌≡◌, ◌==◌, IfErr, position};
 ghost use Rattle.listing.specs.Failure.{IsOfOutput};
 
 mod buffer;
@@ -20,6 +20,13 @@ use std::process::ExitCode;
 // A line is gathered in 256 bytes, one more than a line may have: of a longer one the rest is left out, and it is too long all the same.
 type Line = Buffer<256>;
 
+// Where the first line of some bytes ends.
+fn newline(bytes: &[u8]) -> Option<usize>
+    ensures { result ≡ position (λ b. b == 10) bytes.now }
+{
+    bytes.iter().position(|b| *b == b'\n')
+}
+
 // The bytes of one read: each newline ends a line, the first of which may have begun before; what follows the last newline is gathered.
 // After a write that failed nothing is answered of a line that was cut off.
 fn feed<W: Write>(
@@ -31,9 +38,10 @@ fn feed<W: Write>(
     ensures { IfErr result IsOfOutput }
 {
     let mut rest = chunk;
-    while let Some(end) = rest.iter().position(|b| *b == b'\n') {
+    while let Some(end) = newline(rest) {
         line.gather(&rest[..end]);
-        output::answer(to, line.gathered(), out)?;
+        output::make_room(to, out)?;
+        output::answer(line.gathered(), out);
         line.clear();
         rest = &rest[end + 1..];
     }
@@ -88,7 +96,8 @@ fn finish<W: Write>(to: &mut W, line: &Line, out: &mut Answers) -> Result<(), Fa
     if line.gathered().is_empty() {
         return Ok(());
     }
-    output::answer(to, line.gathered(), out)?;
+    output::make_room(to, out)?;
+    output::answer(line.gathered(), out);
     output::flush(to, out)
 }
 

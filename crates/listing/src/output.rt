@@ -53,7 +53,7 @@ pub(crate) fn flush<W: Write>(to: &mut W, out: &mut Answers) -> Result<(), Failu
 }
 
 // Room for the next answer: the buffer is written out where too little is left of it.
-fn make_room<W: Write>(to: &mut W, out: &mut Answers) -> Result<(), Failure>
+pub(crate) fn make_room<W: Write>(to: &mut W, out: &mut Answers) -> Result<(), Failure>
     ensures ok { IfOk result (λ u. out.new.used + 64 ≤ 65536) }
     ensures err { IfErr result IsOfOutput }
 {
@@ -72,11 +72,9 @@ fn put(line: &[u8], room: &mut [u8]) -> usize
     listing_line::answer(line, room).unwrap()
 }
 
-// The answer to a line.
-pub(crate) fn answer<W: Write>(to: &mut W, line: &[u8], out: &mut Answers) -> Result<(), Failure>
-    ensures { IfErr result IsOfOutput }
+// The answer to a line, where there is room for any.
+pub(crate) fn answer(line: &[u8], out: &mut Answers)
+    requires { out.old.used + 64 ≤ 65536 }
 {
-    make_room(to, out)?;
     out.used += put(line, &mut out.bytes[out.used..]);
-    Ok(())
 }

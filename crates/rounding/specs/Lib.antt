@@ -1,2 +1,3 @@
+pub mod Columns
 pub mod Rounding
 pub mod Steps

@@ -4,6 +4,7 @@
 
 ghost use Rattle.std.specs.Prelude.{◌≡◌, ◌+◌, ◌*◌, ◌/◌, ◌^◌, ◌≤◌, ◌<◌};
 ghost use Rattle.rounding.specs.Rounding.{RoundedTo};
+ghost use Rattle.rounding.specs.Columns.{high_columns};
 ghost use Rattle.rounding.specs.Steps.{sticky_of, increment_of};
 
 // A rounded quotient, and whether nothing was left over.
@@ -20,9 +21,11 @@ pub fn product(a: u64, b: u64) -> u128
     u128::from(a) * u128::from(b)
 }
 
-// The high word of a * b.
+// The high word of a * b, which the columns in base 2^32 give too.
+#[tactic(auto, using(crate::proofs::Columns::high_word))]
 pub fn high_product(a: u64, b: u64) -> u64
-    ensures { result ≡ a * b / 2 ^ 64 }
+    ensures value { result ≡ a * b / 2 ^ 64 }
+    ensures columns { result ≡ high_columns a b }
 {
     (product(a, b) >> 64) as u64
 }

@@ -1,8 +1,8 @@
 -- An offset between two that are read is read; so a run is read whole where its least and its greatest offset are.
-use Rattle.std.specs.Prelude.{is_ok, Result, Ok, Err, Some}
+use Rattle.std.specs.Prelude.{is_ok, Result, Ok, Err, Some, None}
 use mathlib.Core.Path.{◌≡◌, refl, ap, ◌∙◌, subst}
-use mathlib.Core.Bool.{Bool, true, ◌&&◌, false≢true}
-use mathlib.Core.List.{List}
+use mathlib.Core.Bool.{Bool, true, cond, ◌&&◌, false≢true}
+use mathlib.Core.List.{List, [], ◌∷◌}
 use lib.Dec.{T}
 use lib.IntN.{ℤ, pos}
 use lib.Signed.{lt_z, le_z}
@@ -17,7 +17,7 @@ use Rattle.axis.specs.Axis.{read_double_on, read_whole_on}
 use Rattle.axis.proofs.Demands.{whole_between, double_between, whole_double}
 use Rattle.std.proofs.lemmas.Option.{cond_some}
 use Rattle.run_ends.specs.Each.{Each}
-use Rattle.run_ends.specs.Ends.{all_pass, is_number, zero_double, double_ends, whole_number, whole_ends, AsWholes}
+use Rattle.run_ends.specs.Ends.{all_pass, is_number, zero_double, double_ends, whole_number, whole_ends, ends_as_wholes, ends_from, AsWholes}
 use Rattle.run_ends.specs.declared.ends.Ends.{Ends}
 use Rattle.run_ends.proofs.Within.{each_so, within, doubles, wholes}
 use Rattle.refusal.specs.declared.Refusal.{Refusal}
@@ -55,7 +55,7 @@ module _ {A : Type 0} (axis : Axis) (whole : A → Result ℤ Refusal) (read : A
   is (Ok n) e = refl
   is (Err r) e = absurd (false≢true e)
 
-  pub as_wholes_by_ends : (xs : List A) (w : Ends ℤ) → whole_ends whole xs ≡ Some w → (is_read (read_whole_on axis w.least) && is_read (read_whole_on axis w.greatest)) ≡ true → Each (λ (x : A). is_read (read x) ≡ true) xs
+  pub as_wholes_by_ends : (xs : List A) (w : Ends ℤ) → ends_as_wholes whole xs ≡ Some w → (is_read (read_whole_on axis w.least) && is_read (read_whole_on axis w.greatest)) ≡ true → Each (λ (x : A). is_read (read x) ≡ true) xs
   as_wholes_by_ends xs w s h =
       let number : A → ℤ = λ x. whole_number (whole x) in
       let good : A → Bool = λ x. is_ok (whole x) in
@@ -72,9 +72,18 @@ wholes_as_wholes axis x n e = ap (read_whole_on axis) (let k : x ≡ n = cc in k
 pub doubles_as_wholes : (axis : Axis) → axis.mode ≡ Mode.Calendar → AsWholes whole_of (read_double_on axis) (read_whole_on axis)
 doubles_as_wholes axis m x n e = whole_double axis x n m e
 
-module _ (axis : Axis) where
-  pub wholes_by_ends : (xs : List ℤ) (w : Ends ℤ) → whole_ends Ok xs ≡ Some w → (is_read (read_whole_on axis w.least) && is_read (read_whole_on axis w.greatest)) ≡ true → Each (λ (n : ℤ). is_read (read_whole_on axis n) ≡ true) xs
-  wholes_by_ends = as_wholes_by_ends axis Ok (read_whole_on axis) (wholes_as_wholes axis)
+-- whole offsets always have ends
+none_tested : (xs : List ℤ) → all_pass (λ (n : ℤ). true) xs ≡ true
+unfolding all_pass
+none_tested [] = refl
+none_tested (n ∷ xs) = none_tested xs
 
-  pub whole_doubles_by_ends : axis.mode ≡ Mode.Calendar → (xs : List Float) (w : Ends ℤ) → whole_ends whole_of xs ≡ Some w → (is_read (read_whole_on axis w.least) && is_read (read_whole_on axis w.greatest)) ≡ true → Each (λ (x : Float). is_read (read_double_on axis x) ≡ true) xs
+pub wholes_have_ends : (xs : List ℤ) → ends_as_wholes Ok xs ≡ Some (whole_ends xs)
+wholes_have_ends xs = ap (λ (b : Bool). cond b (Some (whole_ends xs)) None) (none_tested xs)
+
+module _ (axis : Axis) where
+  pub wholes_by_ends : (xs : List ℤ) (w : Ends ℤ) → whole_ends xs ≡ w → (is_read (read_whole_on axis w.least) && is_read (read_whole_on axis w.greatest)) ≡ true → Each (λ (n : ℤ). is_read (read_whole_on axis n) ≡ true) xs
+  wholes_by_ends xs w e = as_wholes_by_ends axis Ok (read_whole_on axis) (wholes_as_wholes axis) xs w (wholes_have_ends xs ∙ ap Some e)
+
+  pub whole_doubles_by_ends : axis.mode ≡ Mode.Calendar → (xs : List Float) (w : Ends ℤ) → ends_as_wholes whole_of xs ≡ Some w → (is_read (read_whole_on axis w.least) && is_read (read_whole_on axis w.greatest)) ≡ true → Each (λ (x : Float). is_read (read_double_on axis x) ≡ true) xs
   whole_doubles_by_ends m = as_wholes_by_ends axis whole_of (read_double_on axis) (doubles_as_wholes axis m)

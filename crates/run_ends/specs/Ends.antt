@@ -47,13 +47,17 @@ zero_double = fin false 0 (pos 0)
 abbrev pub double_ends : List Float → Option (Ends Float)
 double_ends xs = cond (all_pass is_number xs) (Some (ends_from (λ (x : Float). x) lt zero_double xs)) None
 
+-- ---- whole offsets, of which each has its place in their order
+abbrev pub whole_ends : List ℤ → Ends ℤ
+whole_ends xs = ends_from (λ (n : ℤ). n) lt_z (pos 0) xs
+
 -- ---- offsets as the whole numbers of 64 bits that they are: whole offsets themselves, and doubles in calendar mode
 abbrev pub whole_number : Result ℤ Refusal → ℤ
 whole_number w = result_unwrap_or w (pos 0)
 
 module _ {A : Type 0} (whole : A → Result ℤ Refusal) where
-  abbrev pub whole_ends : List A → Option (Ends ℤ)
-  whole_ends xs = cond (all_pass (λ (x : A). is_ok (whole x)) xs) (Some (ends_from (λ (x : A). whole_number (whole x)) lt_z (pos 0) xs)) None
+  abbrev pub ends_as_wholes : List A → Option (Ends ℤ)
+  ends_as_wholes xs = cond (all_pass (λ (x : A). is_ok (whole x)) xs) (Some (ends_from (λ (x : A). whole_number (whole x)) lt_z (pos 0) xs)) None
 
   -- they are read as the whole numbers that they are
   abbrev pub AsWholes : (A → Reading) → (ℤ → Reading) → Type 0

@@ -3,7 +3,7 @@
 ghost use Rattle.std.specs.Prelude.{◌≡◌};
 ghost use Rattle.std.specs.Float.Ieee.{lt};
 ghost use Rattle.std.specs.Int.Signed.{lt_z};
-ghost use Rattle.run_ends.specs.Ends.{lesser, greater, double_ends, whole_ends};
+ghost use Rattle.run_ends.specs.Ends.{lesser, greater, double_ends, whole_ends, ends_as_wholes};
 
 use crate::Element;
 
@@ -58,8 +58,8 @@ impl Ends<i64> {
 }
 
 // The ends of a run of offsets as whole numbers, if each of them is one.
-pub fn whole_ends<E: Element>(source: &[E]) -> Option<Ends<i64>>
-    ensures { result ≡ whole_ends E.whole source.now }
+pub fn ends_as_wholes<E: Element>(source: &[E]) -> Option<Ends<i64>>
+    ensures { result ≡ ends_as_wholes E.whole source.now }
 {
     let mut ends = Ends {
         least: 0,
@@ -69,4 +69,11 @@ pub fn whole_ends<E: Element>(source: &[E]) -> Option<Ends<i64>>
         ends = ends.with(x.whole().ok()?);
     }
     Some(ends)
+}
+
+// The ends of a run of whole offsets, which always has them.
+pub fn whole_ends(source: &[i64]) -> Ends<i64>
+    ensures { result ≡ whole_ends source.now }
+{
+    ends_as_wholes(source).unwrap()
 }

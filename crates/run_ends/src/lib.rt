@@ -10,7 +10,6 @@ ghost use Rattle.axis_types.specs.Reading.{is_read, with_days_back, Reading};
 ghost use Rattle.double.specs.Whole.{whole_of};
 ghost use Rattle.axis.specs.Axis.{read_double_on, read_whole_on};
 ghost use Rattle.run_ends.specs.Each.{Each};
-ghost use Rattle.run_ends.specs.Ends.{AsWholes};
 
 use crate::ends::Ends;
 use axis_types::{Axis, Mode, OffsetReading};
@@ -78,19 +77,18 @@ fn read_by_order(axis: Axis, source: &[f64]) -> bool
     }
 }
 
-// By the order of whole numbers, where each offset must be one.
-fn read_as_wholes<E: Element>(axis: Axis, source: &[E]) -> bool
-    requires { AsWholes E.whole (E.read axis) (read_whole_on axis) }
-    ensures { result ≡ true → Each (λ x. is_read (E.read axis x) ≡ true) source.now }
+// By the order of whole numbers, where each double must be one.
+fn read_as_wholes(axis: Axis, source: &[f64]) -> bool
+    requires { axis.mode ≡ Mode.Calendar }
+    ensures { result ≡ true → Each (λ x. is_read (read_double_on axis x) ≡ true) source.now }
 {
-    match ends::whole_ends(source) {
-        Some(ends) => ends_read(axis, ends),
+    match ends::ends_as_wholes(source) {
+        Some(wholes) => ends_read(axis, wholes),
         None => false,
     }
 }
 
 // Whether the ends show that every double is read.
-#[tactic(auto, using(crate::proofs::Between::doubles_as_wholes))]
 pub fn doubles_read(axis: Axis, source: &[f64]) -> bool
     ensures { result ≡ true → Each (λ x. is_read (read_double_on axis x) ≡ true) source.now }
 {
@@ -104,5 +102,5 @@ pub fn doubles_read(axis: Axis, source: &[f64]) -> bool
 pub fn wholes_read(axis: Axis, source: &[i64]) -> bool
     ensures { result ≡ true → Each (λ n. is_read (read_whole_on axis n) ≡ true) source.now }
 {
-    read_as_wholes(axis, source)
+    ends_read(axis, ends::whole_ends(source))
 }

@@ -116,8 +116,7 @@ fn read_all<E: RunElement>(
     ensures counted { result ≡ with_rounded (run_check (E.read axis) (axis_check axis) source.now (length destination.old)) (rounded_count (E.read axis) source.now) }
     ensures written { destination.new ≡ run_written (E.read axis) (axis_check axis) source.now destination.old }
 {
-    let on = GoodAxis::of(axis)?;
-    checks::check(on, source, destination.len())?;
+    let on = checks::check(axis, source, destination.len())?;
     Ok(E::write(on, source, destination))
 }
 

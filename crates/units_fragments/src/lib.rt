@@ -43,8 +43,9 @@ fn count_after(count: usize, n: usize) -> u32
     }
 }
 
-// A state with a fragment more: the bytes that fit are copied behind those so far.
-fn with_fragment(mut s: UnitsState, fragment: &[u8]) -> UnitsState
+// A state with a fragment more: the bytes that fit are copied behind those so far. The bytes alone are taken out of the state, since a state
+// that is changed would be copied once more.
+fn with_fragment(s: UnitsState, fragment: &[u8]) -> UnitsState
     requires { s.count ≤ 129 }
     ensures { result ≡ with_fragment s fragment.now }
 {
@@ -53,9 +54,13 @@ fn with_fragment(mut s: UnitsState, fragment: &[u8]) -> UnitsState
     }
     let count = s.count as usize;
     let n = (128 - count).min(fragment.len());
-    s.bytes[count..count + n].copy_from_slice(&fragment[..n]);
-    s.count = count_after(count, fragment.len());
-    s
+    let mut bytes = s.bytes;
+    bytes[count..count + n].copy_from_slice(&fragment[..n]);
+    UnitsState {
+        count: count_after(count, fragment.len()),
+        bytes,
+        ..s
+    }
 }
 
 // The state that a fragment leaves.

@@ -66,16 +66,19 @@ fn letter(days: Option<i64>) -> u8 {
     }
 }
 
-// The letters of the years that the calendar has among a hundred.
+// The letters of the years that the calendar has among a hundred, in one write: one for each would take most of the time.
 fn print_letters(rt: &impl Print, c: Calendar, from: u64) -> io::Result<()>
     requires { from ≤ 19900 }
 {
+    let mut letters = [0u8; 100];
+    let mut n = 0;
     for y in from..from + 100 {
         if has_year(c, y) {
-            rt.write_all(&[letter(days_of_year(c, y))])?;
+            letters[n] = letter(days_of_year(c, y));
+            n += 1;
         }
     }
-    Ok(())
+    rt.write_all(&letters[..n])
 }
 
 fn print_century(rt: &impl Print, c: Calendar, name: &str, from: u64) -> io::Result<()>

@@ -29,7 +29,7 @@ module _ (r : Ratio) (other : r.from ≡ 1 → ⊥) where
       go p q l e = omega arith
 
 pub returns-else-self-eq1-clause-found : goal.returns-else-self-eq1-clause-found
-returns-else-self-eq1-clause-found c = λ i h. c.high_product.ensures ∙ found c.args.self c.if-self-eq1.false c.args.v i c.ranges.v.fits h
+returns-else-self-eq1-clause-found c = λ i h. c.high_product.ensures.value ∙ found c.args.self c.if-self-eq1.false c.args.v i c.ranges.v.fits h
 
 pub returns-else-self-eq1-clause-bounded : goal.returns-else-self-eq1-clause-bounded
-returns-else-self-eq1-clause-bounded c = λ h. subst (λ (n : ℕ). n ≤ c.args.self.below + c.args.self.above) (sym c.high_product.ensures) (bounded c.args.self c.if-self-eq1.false c.args.v h)
+returns-else-self-eq1-clause-bounded c = λ h. subst (λ (n : ℕ). n ≤ c.args.self.below + c.args.self.above) (sym c.high_product.ensures.value) (bounded c.args.self c.if-self-eq1.false c.args.v h)

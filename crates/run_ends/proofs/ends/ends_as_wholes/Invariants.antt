@@ -1,10 +1,10 @@
--- `run_ends::ends::whole_ends` meets its contract: proofs/Pass.antt, with the whole numbers that the offsets are.
+-- `run_ends::ends::ends_as_wholes` meets its contract: proofs/Pass.antt, with the whole numbers that the offsets are.
 use Rattle.std.specs.Prelude.{is_ok}
 use lib.IntN.{pos}
 use lib.Signed.{lt_z}
 use Rattle.run_ends.specs.Ends.{whole_number}
 use Rattle.run_ends.proofs.Pass.{Passing}
-use Rattle.run_ends.proofs.ends.whole_ends.Given as goal
+use Rattle.run_ends.proofs.ends.ends_as_wholes.Given as goal
 
 abbrev pub invariant-loop-x : goal.invariant-loop-x
 invariant-loop-x g l =
