@@ -4,7 +4,7 @@
 // answer gets it. A read or a write that fails ends the program, which tells the system's reason on standard error.
 #![tactic(auto)]
 
-ghost use Rattle.std.specs.Prelude.{◌≡◌, ◌==◌, IfErr, position};
+ghost use Rattle.std.specs.Prelude.{◌≡◌, ◌==◌, ◌<◌, ◌+◌, ◌≤◌, IfErr, IfSome, length, position};
 ghost use Rattle.listing.specs.Failure.{IsOfOutput};
 
 mod buffer;
@@ -22,7 +22,8 @@ type Line = Buffer<256>;
 
 // Where the first line of some bytes ends.
 fn newline(bytes: &[u8]) -> Option<usize>
-    ensures { result ≡ position (λ b. b == 10) bytes.now }
+    ensures place { result ≡ position (λ b. b == 10) bytes.now }
+    ensures inside { IfSome result (λ n. n < length bytes.now) }
 {
     bytes.iter().position(|b| *b == b'\n')
 }
@@ -39,11 +40,12 @@ fn feed<W: Write>(
 {
     let mut rest = chunk;
     while let Some(end) = newline(rest) {
-        line.gather(&rest[..end]);
+        let (text, next) = rest.split_at(end);
+        line.gather(text);
         output::make_room(to, out)?;
         output::answer(line.gathered(), out);
         line.clear();
-        rest = &rest[end + 1..];
+        rest = &next[1..];
     }
     line.gather(rest);
     output::flush(to, out)
