@@ -75,6 +75,7 @@ fn put(line: &[u8], room: &mut [u8]) -> usize
 // The answer to a line, where there is room for any.
 pub(crate) fn answer(line: &[u8], out: &mut Answers)
     requires { out.old.used + 64 ≤ 65536 }
+    ensures { out.new.used ≡ out.old.used + length (line_text line.now) }
 {
     out.used += put(line, &mut out.bytes[out.used..]);
 }
