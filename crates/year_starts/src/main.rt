@@ -44,15 +44,24 @@ fn last_day(c: Calendar, y: u64) -> Option<i64>
     day(c, y, 12, 31).or(day(c, y, 12, 30))
 }
 
-// From January 1st to the next; the year 9999 ends with its last day.
-fn days_of_year(c: Calendar, y: u64) -> Option<i64>
+// The day number of January 1st of a year, or of the year after it where the calendar lacks it.
+fn start_from(c: Calendar, y: u64) -> Option<i64>
+    requires { y ≤ 20000 }
+{
+    match day(c, y, 1, 1) {
+        Some(n) => Some(n),
+        None => day(c, y + 1, 1, 1),
+    }
+}
+
+// From January 1st, whose day number is `start`, to the next; the year 9999 ends with its last day.
+fn days_of_year(c: Calendar, y: u64, start: i64) -> Option<i64>
     requires { y ≤ 19999 }
 {
-    let start = day(c, y, 1, 1)?;
     if y == 19999 {
         last_day(c, y)?.checked_sub(start)?.checked_add(1)
     } else {
-        day(c, year_from(c, y + 1), 1, 1)?.checked_sub(start)
+        start_from(c, y + 1)?.checked_sub(start)
     }
 }
 
@@ -73,8 +82,8 @@ fn print_letters(rt: &impl Print, c: Calendar, from: u64) -> io::Result<()>
     let mut letters = [0u8; 100];
     let mut n = 0;
     for y in from..from + 100 {
-        if has_year(c, y) {
-            letters[n] = letter(days_of_year(c, y));
+        if let Some(start) = day(c, y, 1, 1) {
+            letters[n] = letter(days_of_year(c, y, start));
             n += 1;
         }
     }
