@@ -103,7 +103,8 @@ def has_function(text, types, name):
     """Whether a source file has a function, or the impl or trait of a type a method, of that name."""
     if not types:
         return re.search(rf"^(?:pub(?:\(crate\))? )?(?:extern \"C\" )?fn {name}\b", text, re.MULTILINE)
-    of_type = re.compile(rf"^(?:impl\b[^{{]*\b{types[0]}\b|(?:pub )?trait {types[0]}\b).*?^}}", re.MULTILINE | re.DOTALL)
+    head = rf"impl(?:<[^>]*>)? (?:[^{{]*\bfor )?{types[0]}\b[^{{]*|(?:pub(?:\(crate\))? )?trait {types[0]}\b[^{{]*"
+    of_type = re.compile(rf"^(?:{head})\{{.*?^}}", re.MULTILINE | re.DOTALL)
     return any(re.search(rf"^    (?:pub(?:\(crate\))? )?fn {name}\b", body, re.MULTILINE) for body in of_type.findall(text))
 
 
