@@ -41,7 +41,7 @@ lib: loops    # the archive and the shared object of include/uppinalo.h
 shared:   # the shared object alone, of an archive that is there
 	gcc -shared -o $(ARCHIVE)/libuppinalo.so -Wl,-soname,$(SONAME) -Wl,-z,relro,-z,now,-z,noexecstack,-z,text,-z,defs \
 		-Wl,--whole-archive $(ARCHIVE)/libuppinalo.a -Wl,--no-whole-archive
-	ln -sf libuppinalo.so $(ARCHIVE)/$(SONAME)
+	cp $(ARCHIVE)/libuppinalo.so $(ARCHIVE)/$(SONAME)    # no link: rt ci takes none in a checkout
 
 install:  # what C and Fortran need, and the program `listing`, under PREFIX, which is /usr/local; builds and proves nothing
 	@[ -e $(ARCHIVE)/libuppinalo.a ] && [ -e $(ARCHIVE)/libuppinalo.so ] || \

@@ -4,7 +4,7 @@
 // answer gets it. A read or a write that fails ends the program, which tells the system's reason on standard error.
 #![tactic(auto)]
 
-ghost use Rattle.std.specs.Prelude.{◌≡◌, ◌==◌, ◌<◌, ◌+◌, ◌≤◌, IfErr, IfSome, length, position};
+ghost use Rattle.std.specs.Prelude.{◌≡◌, ◌==◌, ◌<◌, IfErr, IfSome, length, position};
 ghost use Rattle.listing.specs.Failure.{IsOfOutput};
 
 mod buffer;
